@@ -1,0 +1,12 @@
+//! Numbers, words and short texts as schedules, keys and channels spell them.
+#![tactic(auto)]
+
+mod short_text;
+
+pub use short_text::ShortText;
+
+/// The greatest length of a [`Brief`], in bytes.
+pub const BRIEF_BYTES: usize = 128;
+
+/// A list of at most 128 bytes of fixed size, copied without memory: a key, a field, an owner's text.
+pub type Brief = ShortText<128>;
