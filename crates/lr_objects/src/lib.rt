@@ -1,0 +1,12 @@
+//! What a client asks of an object, and what it is answered.
+#![tactic(auto)]
+
+mod function;
+mod op;
+mod reply;
+mod want;
+
+pub use function::Function;
+pub use op::Op;
+pub use reply::{Remaining, Reply};
+pub use want::{Lease, Mode, WATCHDOG_LEASE, Want};

@@ -1,0 +1,75 @@
+ghost use Rattle.std.specs.Prelude.{◌≡◌, ℕ, ◌≤◌, ◌<◌, ◌^◌};
+ghost use Rattle.lr_objects.specs.Reply.{blocks};
+
+use crate::function::Function;
+use std::marker::Model;
+
+/// How long an object stays busy at most, in milliseconds: at least 1.
+#[derive(Clone, Copy, Debug, PartialEq, Eq)]
+pub struct Remaining {
+    millis: u64,
+}
+
+impl Model for Remaining {
+    ghost use Rattle.std.specs.Prelude.{ℕ, ◌≤◌, ◌<◌, ◌^◌};
+
+    ghost Value = { ℕ };
+
+    ghost view = { λ r. r.millis };
+
+    ghost invariant = { λ r. (1 ≤ r.millis) × (r.millis < 2 ^ 63) };
+
+    ghost inverse = { λ millis. record { millis = millis } };
+}
+
+impl Remaining {
+    /// So many milliseconds.
+    pub fn new(millis: u64) -> Self
+        requires some { 1 ≤ millis }
+        requires fits { millis < 2 ^ 63 }
+        ensures { result ≡ millis }
+    {
+        Remaining { millis }
+    }
+
+    /// The number of milliseconds.
+    pub fn millis(&self) -> u64
+        ensures value { result ≡ self.now }
+        ensures some { 1 ≤ result }
+        ensures fits { result < 2 ^ 63 }
+    {
+        self.millis
+    }
+}
+
+/// What a function answers.
+#[derive(Clone, Copy, Debug, PartialEq, Eq)]
+pub enum Reply {
+    /// The object was taken.
+    Granted,
+    /// Another has it, for at most so long.
+    Busy(Remaining),
+    /// One hold was given back, and the owner still holds the lock.
+    Kept,
+    /// The last hold is gone, and the object is free.
+    Freed,
+    /// The owner doesn't hold the lock, or nobody does.
+    NotHeld,
+    /// The hold has a new deadline.
+    Renewed,
+    /// There was no hold to renew.
+    Lost,
+    /// The owner holds the lock a million times already.
+    TooDeep,
+    /// The lease isn't within 1 and 86,400,000,000 milliseconds.
+    BadLease,
+}
+
+impl Reply {
+    /// Whether the one who asked has to wait for the object.
+    pub fn blocks(&self, _function: Function) -> bool
+        ensures { result ≡ blocks self.now _function }
+    {
+        matches!(self, Reply::Busy(_))
+    }
+}
