@@ -1,0 +1,5 @@
+pub mod Owners
+pub mod Tenures
+pub mod Conflicts
+pub mod Histories
+pub mod Schedules

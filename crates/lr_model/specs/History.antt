@@ -1,0 +1,103 @@
+-- The state of the server after each entry of its history, and which histories are legal.
+use Rattle.std.specs.Prelude.{◌≡◌, ◌≢◌, ℕ, ◌<◌, ◌≤◌, nat_le, List, [], ◌∷◌, take, length, IsTrue, Bool, true, false, Option, Some, None, if◌then◌else◌, unwrap_or, slice_get}
+use Rattle.lr_names.specs.declared.post.Post.{Post}
+use Rattle.lr_names.specs.declared.post.Push.{Push}
+use Rattle.lr_objects.specs.declared.op.Op.{Op}
+use Rattle.lr_objects.specs.declared.reply.Reply.{Reply}
+use Rattle.lr_model.specs.declared.entry.Act.{Act}
+use Rattle.lr_model.specs.declared.entry.Act.TheVariants.{Call, Subscribe, Unsubscribe, Open, Close, Drain}
+use Rattle.lr_model.specs.declared.entry.Entry.{Entry}
+use Rattle.lr_model.specs.Answer.{Objects, no_objects, reply_of, objects_after, post_of}
+use Rattle.lr_model.specs.Board.{Board, Connection, is_open, has_room, closed, opened_by, posted, subscribed, unsubscribed, drained, with_connection, free_numbers, reached_by, dropped_by}
+
+-- what a server is: a moment, the objects and the board
+pub record State : Type 0 where
+  pub moment : ℕ
+  pub objects : Objects
+  pub board : Board
+
+-- a server that has just started, with the connections 0 to the last one open, by caller 0
+abbrev pub started : ℕ → State
+started last = record { moment = 0; objects = no_objects; board = λ conn. if nat_le conn last then opened_by 0 else closed }
+
+-- the number that the next connection gets: the least free one
+abbrev pub next_number : Board → ℕ
+next_number board = unwrap_or (slice_get (free_numbers board) 0) 0
+
+-- the objects after an act
+abbrev pub objects_by : State → ℕ → Act → Objects
+objects_by state moment (Call op) = objects_after state.objects moment op
+objects_by state moment (Subscribe channel) = state.objects
+objects_by state moment (Unsubscribe channel) = state.objects
+objects_by state moment Open = state.objects
+objects_by state moment Close = state.objects
+objects_by state moment (Drain most) = state.objects
+
+-- the board after an act
+abbrev pub board_by : State → Entry → Act → Board
+board_by state entry (Call op) = posted (post_of state.objects entry.moment op) state.board
+board_by state entry (Subscribe channel) = with_connection state.board entry.conn (subscribed channel (state.board entry.conn))
+board_by state entry (Unsubscribe channel) = with_connection state.board entry.conn (unsubscribed channel (state.board entry.conn))
+board_by state entry Open = with_connection state.board entry.conn (opened_by entry.caller)
+board_by state entry Close = with_connection state.board entry.conn closed
+board_by state entry (Drain most) = with_connection state.board entry.conn (drained most (state.board entry.conn))
+
+-- the state after an entry
+abbrev pub step : State → Entry → State
+step state entry = record { moment = entry.moment; objects = objects_by state entry.moment entry.act; board = board_by state entry entry.act }
+
+-- the state after these entries
+abbrev pub after : State → List Entry → State
+after state [] = state
+after state (entry ∷ entries) = after (step state entry) entries
+
+-- the connection is open, was not dropped, and its outbox takes an acknowledgement
+pub record CanAcknowledge (connection : Connection) : Type 0 where
+  pub open_ : IsTrue (is_open connection)
+  pub kept : connection.dropped ≡ false
+  pub room : IsTrue (has_room connection)
+
+-- the connection is open, was not dropped, and has no channel: it may run functions
+pub record CanCall (connection : Connection) : Type 0 where
+  pub open_ : IsTrue (is_open connection)
+  pub kept : connection.dropped ≡ false
+  pub quiet : connection.channels ≡ []
+
+-- something waits for the connection, and is asked for
+pub record CanDrain (connection : Connection) (most : ℕ) : Type 0 where
+  pub open_ : IsTrue (is_open connection)
+  pub kept : connection.dropped ≡ false
+  pub asked : 1 ≤ most
+  pub waits : connection.outbox ≢ []
+
+-- the connection has the least number that is free
+pub record CanOpen (board : Board) (conn : ℕ) : Type 0 where
+  pub free : slice_get (free_numbers board) 0 ≡ Some conn
+
+-- when an act is allowed
+abbrev pub IsAllowed : State → ℕ → Act → Type 0
+IsAllowed state conn (Call op) = CanCall (state.board conn)
+IsAllowed state conn (Subscribe channel) = CanAcknowledge (state.board conn)
+IsAllowed state conn (Unsubscribe channel) = CanAcknowledge (state.board conn)
+IsAllowed state conn Open = CanOpen state.board conn
+IsAllowed state conn Close = IsTrue (is_open (state.board conn))
+IsAllowed state conn (Drain most) = CanDrain (state.board conn) most
+
+-- an entry may follow: moments never fall, and the act is allowed
+pub record MayFollow (state : State) (entry : Entry) : Type 0 where
+  pub in_time : state.moment ≤ entry.moment
+  pub allowed : IsAllowed state entry.conn entry.act
+
+-- a history is legal where each of its entries may follow those before it
+abbrev pub IsLegal : State → List Entry → Type 0
+IsLegal state [] = Unit {0}
+IsLegal state (entry ∷ entries) = MayFollow state entry × IsLegal (step state entry) entries
+
+-- the reply to the call of an entry
+abbrev pub reply_by : State → ℕ → Act → Option Reply
+reply_by state moment (Call op) = Some (reply_of state.objects moment op)
+reply_by state moment (Subscribe channel) = None
+reply_by state moment (Unsubscribe channel) = None
+reply_by state moment Open = None
+reply_by state moment Close = None
+reply_by state moment (Drain most) = None

@@ -1,0 +1,10 @@
+pub mod Moment
+pub mod Table
+pub mod Mutex
+pub mod Answer
+pub mod Board
+pub mod History
+pub mod Tenure
+pub mod Within
+pub mod World
+pub mod Sound

@@ -1,0 +1,41 @@
+use lr_objects::{Mode, Op, Reply, Want};
+
+/// A thread of a client.
+#[derive(Clone, Copy, Debug, PartialEq, Eq, Hash)]
+pub struct ThreadId {
+    /// The client's number.
+    pub client: u32,
+    /// The thread's number in its client.
+    pub thread: u32,
+}
+
+/// A call that was sent.
+#[derive(Clone, Copy, PartialEq, Eq)]
+pub struct Asking {
+    /// The call.
+    pub op: Op,
+    /// When it was sent, in milliseconds.
+    pub at: u64,
+}
+
+/// How far a request has come.
+#[derive(Clone, Copy, PartialEq, Eq)]
+pub enum Stage {
+    /// It has begun.
+    Fresh,
+    /// Its call was sent.
+    Asked(Asking),
+    /// Its call was executed, with this reply.
+    Answered(Asking, Reply),
+}
+
+/// A request of a thread that hasn't ended.
+#[derive(Clone, Copy, PartialEq, Eq)]
+pub struct Waiter {
+    /// How long it may wait.
+    pub mode: Mode,
+    /// What it wants.
+    pub want: Want,
+    /// How far it has come.
+    pub stage: Stage,
+}
