@@ -5,11 +5,13 @@ mod items;
 mod number;
 mod short_text;
 mod text;
+mod words;
 
 pub use items::Items;
 pub use number::{read_number, write_number};
 pub use short_text::ShortText;
 pub use text::Text;
+pub use words::Words;
 
 /// The greatest length of a [`Brief`], in bytes.
 pub const BRIEF_BYTES: usize = 128;

@@ -1,5 +1,5 @@
 use Rattle.std.proofs.Common.{true≢false, sym, ◌∙◌}
-use Rattle.lr_text.proofs.Numbers.{decimal_no_sign, decimal_no_zeros, IsUtf8-decimal}
+use Rattle.lr_text.proofs.NumberLaws.{decimal_no_sign, decimal_no_zeros, IsUtf8-decimal}
 use Rattle.lr_text.proofs.number.read_number.Goals as goal
 
 pub returns-then-not-has_plain_start-clause-none :

@@ -1,4 +1,4 @@
-use Rattle.lr_text.proofs.Numbers.{parses_some, parses_none}
+use Rattle.lr_text.proofs.NumberLaws.{parses_some, parses_none}
 use Rattle.lr_text.proofs.number.read_plain.Goals as goal
 
 pub returns-clause-some : goal.returns-clause-some

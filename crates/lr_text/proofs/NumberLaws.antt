@@ -1,14 +1,30 @@
 -- Decimals against what std's `parse` reads.
-use Rattle.std.proofs.Common.{◌≡◌, ◌≢◌, ℕ, zero, suc, ◌<◌, ◌^◌, List, length, get_or, Result, Ok, Err, IfSome, IsNone, decimal, arith, sym, ap, ◌∙◌, true≢false}
+use Rattle.std.proofs.Common.{◌≡◌, ◌≢◌, ℕ, zero, suc, ◌<◌, ◌^◌, List, length, get_or, ◌≤◌, IsTrue, Result, Ok, Err, IfSome, IsNone, decimal, arith, sym, ap, ◌∙◌, true≢false}
+use Rattle.std.specs.Int.{IsInRange}
 use Rattle.std.specs.Result.{result_ok}
 use Rattle.std.specs.Str.{IsUtf8}
 use Rattle.std.specs.Str.Parse.{AllDigits, digits_value, ParsesUnsigned}
-use Rattle.std.proofs.lemmas.Fmt.{decimal-digits_value, digits_decimal, digits_value-decimal, decimal_nonempty, first_decimal, decimal_digit, IsAscii-decimal}
+use Rattle.std.proofs.lemmas.Fmt.{length-decimal-le, decimal-digits_value, digits_decimal, digits_value-decimal, decimal_nonempty, first_decimal, decimal_digit, IsAscii-decimal}
 use Rattle.std.proofs.lemmas.Str.{IsUtf8-from_ascii}
 use Rattle.std.proofs.lemmas.Str.Parse.{IsNumeralModel, numerals_by_value, tells_digits, parse_plain, not_in_digits}
+use Rattle.lr_text.specs.Words.{lacks}
+use Rattle.lr_text.proofs.WordLaws.{lacks-from_places}
 
 own : IsNumeralModel (AllDigits 10) (digits_value 10)
 own = numerals_by_value (AllDigits 10) tells_digits
+
+-- a decimal has no byte but digits
+pub decimal-lacks : (byte n : ℕ) → ¬ (IsInRange 48 57 byte) → n < 2 ^ 64 → IsTrue (lacks byte (decimal n))
+decimal-lacks byte n other small =
+    lacks-from_places byte (decimal n) (λ k within. not_in_digits own (decimal n) byte (digits_decimal own n small) other k within)
+
+-- so it is a word
+pub decimal-is_word : (n : ℕ) → n < 2 ^ 64 → IsTrue (lacks 32 (decimal n))
+decimal-is_word n small = decimal-lacks 32 n (λ r. omega arith) small
+
+-- it has 1 to 20 bytes
+pub length-decimal : (n : ℕ) → n < 2 ^ 64 → (0 < length (decimal n)) × (length (decimal n) ≤ 20)
+length-decimal n small = (decimal_nonempty n small, length-decimal-le 20 n (omega arith) (omega arith) small)
 
 -- a decimal begins with no sign, and only that of 0 with a zero
 pub decimal_no_sign : (n : ℕ) → n < 2 ^ 64 → get_or (decimal n) 0 0 ≢ 43
