@@ -1,9 +1,17 @@
 //! Numbers, words and short texts as schedules, keys and channels spell them.
 #![tactic(auto)]
 
+mod items;
+mod number;
 mod short_text;
+mod text;
+mod words;
 
+pub use items::Items;
+pub use number::{read_number, write_number};
 pub use short_text::ShortText;
+pub use text::Text;
+pub use words::Words;
 
 /// The greatest length of a [`Brief`], in bytes.
 pub const BRIEF_BYTES: usize = 128;
