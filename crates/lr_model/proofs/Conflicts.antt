@@ -36,10 +36,12 @@ pub waited : (owner : ThreadOfClient) (m n : ℕ) (t : Tenure) (held : Option Ho
 waited owner m n t held le stands = record { held_while = λ current. stands.held_while (current_before t m n le current) }
 
 lasting : (owner : ThreadOfClient) (m n : ℕ) (t : Tenure) (held : Option Hold) → m ≤ n → Stands owner m t held → Stands owner n t (live_hold n held)
-lasting owner m n t held le stands = record { held_while = λ current.
-    let h = stands.held_while (current_before t m n le current) in
-    let live : live_hold n held ≡ Some h.hold = ap (live_hold n) h.is ∙ still_live h.hold n (subst (λ d. n < d) (sym h.until) (live_at t n current)) in
-    record { hold = h.hold; is = live; mine = h.mine; until = h.until } }
+lasting owner m n t held le stands = record {
+  held_while = λ current.
+      let h = stands.held_while (current_before t m n le current) in
+      let live : live_hold n held ≡ Some h.hold = ap (live_hold n) h.is ∙ still_live h.hold n (subst (λ d. n < d) (sym h.until) (live_at t n current)) in
+      record { hold = h.hold; is = live; mine = h.mine; until = h.until };
+}
 
 -- a call on another lock changes no tenure on this one
 elsewhere : (name : List ℕ) (owner : ThreadOfClient) (moment : ℕ) (op : Op) (reply : Reply) (t : Tenure) → bytes_eq (name_of op) name ≡ false → tenure_by_call name owner moment op reply t ≡ t
@@ -87,9 +89,11 @@ no_conflict last entries legal name a b moment le other current = decided (holds
   where
     first : State
     first = started last
+
     held_by : (o : ThreadOfClient) → holds_at (started last) entries name o moment ≡ true → IsHeld o (tenure_after name o (started last) entries no_tenure) ((after (started last) entries).objects.mutexes name)
     held_by o h =
-      (waited o _ moment _ _ le (history_keeps name o entries (started last) no_tenure legal (record { held_while = λ c. absurd (false≢true c) }))).held_while h
+        (waited o _ moment _ _ le (history_keeps name o entries (started last) no_tenure legal (record { held_while = λ c. absurd (false≢true c) }))).held_while h
+
     decided : (r : Bool) → holds_at (started last) entries name b moment ≡ r → r ≡ false
     decided false e = refl
     decided true e = absurd (false≢true (sym other ∙ two_owners a b _ _ _ (held_by a current) (held_by b e)))

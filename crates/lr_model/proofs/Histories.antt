@@ -22,6 +22,6 @@ acts_by-append caller [] ys = refl
 acts_by-append caller (x ∷ xs) ys = by_case (x.0 == caller) (acts_by-append caller xs ys)
   where
     by_case : (b : Bool) → acts_by caller (xs ++ ys) ≡ acts_by caller xs ++ acts_by caller ys
-      → (if b then x.1 ∷ acts_by caller (xs ++ ys) else acts_by caller (xs ++ ys)) ≡ (if b then x.1 ∷ acts_by caller xs else acts_by caller xs) ++ acts_by caller ys
+        → (if b then x.1 ∷ acts_by caller (xs ++ ys) else acts_by caller (xs ++ ys)) ≡ (if b then x.1 ∷ acts_by caller xs else acts_by caller xs) ++ acts_by caller ys
     by_case true h = ap (λ (l : List Act). x.1 ∷ l) h
     by_case false h = h

@@ -66,15 +66,15 @@ module _ (entries : List Entry) (moment caller conn : ℕ) (op : Op) where
   -- one call more
   pub call_good : conn ≤ 128 → IsGood entries moment → IsGood (entries ++ call_entry moment caller conn op ∷ []) moment
   call_good le good =
-    let state : State = after first_state entries in
-    let entry : Entry = call_entry moment caller conn op in
-    let now : after first_state (entries ++ entry ∷ []) ≡ step state entry = after-push first_state entries entry in
-    let may : MayFollow state entry = record { in_time = good.in_time; allowed = subst CanCall (sym (good.quiet conn)) (can_call conn le) } in
-    record {
-      legal = IsLegal-push first_state entries entry good.legal may;
-      in_time = rw now (omega arith);
-      quiet = λ c. ap (λ (s : State). s.board c) now ∙ posted_quiet (post_of state.objects moment op) state.board good.quiet c;
-    }
+      let state : State = after first_state entries in
+      let entry : Entry = call_entry moment caller conn op in
+      let now : after first_state (entries ++ entry ∷ []) ≡ step state entry = after-push first_state entries entry in
+      let may : MayFollow state entry = record { in_time = good.in_time; allowed = subst CanCall (sym (good.quiet conn)) (can_call conn le) } in
+      record {
+        legal = IsLegal-push first_state entries entry good.legal may;
+        in_time = rw now (omega arith);
+        quiet = λ c. ap (λ (s : State). s.board c) now ∙ posted_quiet (post_of state.objects moment op) state.board good.quiet c;
+      }
 
 abbrev IsGoodWorld : World → Type 0
 IsGoodWorld world = IsGood world.entries world.moment

@@ -73,14 +73,16 @@ module _ (owner o : ThreadOfClient) (moment lease : ℕ) (tenure : Tenure) where
     where
       P : Outcome (Option Hold) → Type 0
       P outcome = Stands owner moment (tenure_by_try moment lease outcome.reply tenure) outcome.object
+
       granted : (count : ℕ) → P (held_so Granted o count (moment + lease))
       granted count = record { held_while = λ current. record { hold = record { owner = o; count = count; deadline = moment + lease }; is = refl; mine = same; until = refl } }
+
       tried : (held : Option Hold) → Stands owner moment tenure held → P (try_lock moment o lease held)
       tried None stands = granted 1
       tried (Some hold) stands =
-        either P (same_owner hold.owner o) (if hold.count == 1000000 then unchanged TooDeep (Some hold) else held_so Granted o (hold.count + 1) (moment + lease)) (unchanged (Busy (hold.deadline - moment)) (Some hold))
-        (λ _. either P (hold.count == 1000000) (unchanged TooDeep (Some hold)) (held_so Granted o (hold.count + 1) (moment + lease)) (λ _. stands) (λ _. granted (hold.count + 1)))
-        (λ _. stands)
+          either P (same_owner hold.owner o) (if hold.count == 1000000 then unchanged TooDeep (Some hold) else held_so Granted o (hold.count + 1) (moment + lease)) (unchanged (Busy (hold.deadline - moment)) (Some hold))
+          (λ _. either P (hold.count == 1000000) (unchanged TooDeep (Some hold)) (held_so Granted o (hold.count + 1) (moment + lease)) (λ _. stands) (λ _. granted (hold.count + 1)))
+          (λ _. stands)
 
   -- giving back one's own
   own_unlock : (held : Option Hold) → same_owner o owner ≡ true → Stands owner moment tenure held
@@ -89,16 +91,19 @@ module _ (owner o : ThreadOfClient) (moment lease : ℕ) (tenure : Tenure) where
     where
       P : Outcome (Option Hold) → Type 0
       P outcome = Stands owner moment (tenure_by_unlock moment lease outcome.reply tenure) outcome.object
+
       kept : (count : ℕ) → P (held_so Kept o count (moment + lease))
       kept count = record { held_while = λ current. record { hold = record { owner = o; count = count; deadline = moment + lease }; is = refl; mine = same; until = refl } }
+
       ended : P freed
       ended = record { held_while = λ current. absurd (false≢true current) }
+
       given : (held : Option Hold) → Stands owner moment tenure held → P (unlock moment o lease held)
       given None stands = stands
       given (Some hold) stands =
-        either P (same_owner hold.owner o) (if hold.count == 1 then freed else held_so Kept o (hold.count - 1) (moment + lease)) (unchanged NotHeld (Some hold))
-        (λ _. either P (hold.count == 1) freed (held_so Kept o (hold.count - 1) (moment + lease)) (λ _. ended) (λ _. kept (hold.count - 1)))
-        (λ _. stands)
+          either P (same_owner hold.owner o) (if hold.count == 1 then freed else held_so Kept o (hold.count - 1) (moment + lease)) (unchanged NotHeld (Some hold))
+          (λ _. either P (hold.count == 1) freed (held_so Kept o (hold.count - 1) (moment + lease)) (λ _. ended) (λ _. kept (hold.count - 1)))
+          (λ _. stands)
 
   -- renewing one's own
   own_renew : (held : Option Hold) → same_owner o owner ≡ true → Stands owner moment tenure held
@@ -107,12 +112,14 @@ module _ (owner o : ThreadOfClient) (moment lease : ℕ) (tenure : Tenure) where
     where
       P : Outcome (Option Hold) → Type 0
       P outcome = Stands owner moment (tenure_by_renew moment lease outcome.reply tenure) outcome.object
+
       longer : (count : ℕ) → P (held_so Renewed o count (moment + lease))
       longer count = record { held_while = λ current. record { hold = record { owner = o; count = count; deadline = moment + lease }; is = refl; mine = same; until = refl } }
+
       renewed : (held : Option Hold) → Stands owner moment tenure held → P (renew_lock moment o lease held)
       renewed None stands = stands
       renewed (Some hold) stands =
-        either P (same_owner hold.owner o) (held_so Renewed o hold.count (moment + lease)) (unchanged Lost (Some hold)) (λ _. longer hold.count) (λ _. stands)
+          either P (same_owner hold.owner o) (held_so Renewed o hold.count (moment + lease)) (unchanged Lost (Some hold)) (λ _. longer hold.count) (λ _. stands)
 
   -- calls of another
   other_try : (held : Option Hold) → same_owner o owner ≡ false → Stands owner moment tenure held → Stands owner moment tenure (with_lease lease held (try_lock moment o lease held)).object

@@ -5,11 +5,13 @@
 mod entry;
 mod event;
 mod hold;
+mod laws;
 mod shown;
 mod waiter;
 
 pub use entry::{Act, Entry};
 pub use event::Event;
 pub use hold::Hold;
+pub use laws::{every_schedule_goes_well, tenures_never_conflict};
 pub use shown::{Found, Reached, Replied, Shown};
 pub use waiter::{Asking, Stage, ThreadId, Waiter};
