@@ -8,3 +8,5 @@ pub mod Tenure
 pub mod Within
 pub mod World
 pub mod Sound
+pub mod EventText
+pub mod Transcript

@@ -1,3 +1,4 @@
 pub mod Name
 pub mod Owner
 pub mod Channel
+pub mod Text
