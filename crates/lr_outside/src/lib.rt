@@ -1,0 +1,16 @@
+//! What the programs read from and write to, as traits; what stands for them in memory and over std; and lines.
+#![tactic(auto)]
+
+mod adapters;
+
+mod plain;
+mod sink;
+mod source;
+mod status;
+
+pub use adapters::{InputSource, OutputSink};
+
+pub use plain::{PlainSink, PlainSource};
+pub use sink::{Sink, WriteTurn, write_whole};
+pub use source::{ReadTurn, Source};
+pub use status::Status;
