@@ -1,3 +1,4 @@
+pub mod Memory
 pub mod Plain
 pub mod Status
 pub mod Turns

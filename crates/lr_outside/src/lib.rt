@@ -3,6 +3,7 @@
 
 mod adapters;
 
+mod memory;
 mod plain;
 mod sink;
 mod source;
@@ -10,6 +11,7 @@ mod status;
 
 pub use adapters::{InputSource, OutputSink};
 
+pub use memory::{MemSink, MemSource};
 pub use plain::{PlainSink, PlainSource};
 pub use sink::{Sink, WriteTurn, write_whole};
 pub use source::{ReadTurn, Source};
