@@ -8,6 +8,7 @@ mod plain;
 mod sink;
 mod source;
 mod status;
+mod window;
 
 pub use adapters::{InputSource, OutputSink};
 
@@ -16,3 +17,6 @@ pub use plain::{PlainSink, PlainSource};
 pub use sink::{Sink, WriteTurn, write_whole};
 pub use source::{ReadTurn, Source};
 pub use status::Status;
+
+/// The greatest length of a [`Line`], in bytes.
+pub const LINE_BYTES: usize = 512;
