@@ -1,3 +1,5 @@
+pub mod Values
+pub mod WaiterValue
 pub mod Moment
 pub mod Table
 pub mod Mutex

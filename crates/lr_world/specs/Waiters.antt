@@ -1,6 +1,6 @@
 -- The requests that threads have begun, as a table by thread.
 use Rattle.std.specs.Prelude.{List, Option}
-use Rattle.std_collections.specs.Map.{lookup}
+use Rattle.std.specs.Map.{lookup}
 use Rattle.lr_model.specs.declared.waiter.ThreadId.{ThreadId}
 use Rattle.lr_model.specs.declared.waiter.Waiter.{Waiter}
 use Rattle.lr_model.specs.World.{same_thread}
