@@ -3,7 +3,6 @@ ghost use Rattle.lr_model.specs.declared.waiter.ThreadId.{ThreadId};
 ghost use Rattle.lr_model.specs.Table.{put};
 ghost use Rattle.lr_model.specs.World.{same_thread};
 ghost use Rattle.lr_world.specs.Waiters.{request_of};
-ghost use Rattle.std.specs.Map.{lookup};
 
 use indexmap::IndexMap;
 use lr_model::{ThreadId, Waiter};
@@ -49,7 +48,8 @@ impl Waiters {
         ensures added { OnOk result ((q : ThreadId) → request_of self.new q ≡ put same_thread (request_of self.old) id (Some waiter) q) }
         ensures err { OnErr result (self.new ≡ self.old) }
     {
-        store(&mut self.requests, id, waiter)
+        self.requests.insert(id, waiter)?;
+        Ok(())
     }
 
     /// Changes the request of a thread that has one.
@@ -57,7 +57,7 @@ impl Waiters {
         requires { IsSome (request_of self.old id) }
         ensures { (q : ThreadId) → request_of self.new q ≡ put same_thread (request_of self.old) id (Some waiter) q }
     {
-        replace(&mut self.requests, id, waiter);
+        *self.requests.get_mut(&id).unwrap() = waiter;
     }
 
     /// Ends the request of a thread.
@@ -65,28 +65,5 @@ impl Waiters {
         ensures { (q : ThreadId) → request_of self.new q ≡ put same_thread (request_of self.old) id None q }
     {
         let _ = self.requests.swap_remove(&id);
-    }
-}
-
-// The map with a value at a thread, whether it had one or not.
-fn store<V: Drop>(
-    map: &mut IndexMap<ThreadId, V>,
-    id: ThreadId,
-    value: V,
-) -> Result<(), AllocError>
-    ensures stored { OnOk result ((q : ThreadId) → lookup (same_thread q) map.new.entries ≡ put same_thread (λ id. lookup (same_thread id) map.old.entries) id (Some value) q) }
-    ensures err { OnErr result (map.new.entries ≡ map.old.entries) }
-{
-    map.insert(id, value)?;
-    Ok(())
-}
-
-// The map with another value at a thread that has one.
-fn replace<V: Drop>(map: &mut IndexMap<ThreadId, V>, id: ThreadId, value: V)
-    requires { IsSome (lookup (same_thread id) map.old.entries) }
-    ensures { (q : ThreadId) → lookup (same_thread q) map.new.entries ≡ put same_thread (λ id. lookup (same_thread id) map.old.entries) id (Some value) q }
-{
-    if let Some(slot) = map.get_mut(&id) {
-        *slot = value;
     }
 }
