@@ -2,6 +2,7 @@
 #![tactic(auto)]
 
 mod server;
+mod steps;
 mod waiters;
 
 pub use server::Server;

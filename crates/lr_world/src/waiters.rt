@@ -45,7 +45,7 @@ impl Waiters {
 
     /// Begins a request of a thread, or puts another in its place. An `Err` changes nothing.
     pub fn add(&mut self, id: ThreadId, waiter: Waiter) -> Result<(), AllocError>
-        ensures added { OnOk result ((q : ThreadId) → request_of self.new q ≡ put same_thread (request_of self.old) id (Some waiter) q) }
+        ensures added { OnOk result (request_of self.new ≡ put same_thread (request_of self.old) id (Some waiter)) }
         ensures err { OnErr result (self.new ≡ self.old) }
     {
         self.requests.insert(id, waiter)?;
@@ -55,14 +55,14 @@ impl Waiters {
     /// Changes the request of a thread that has one.
     pub fn set(&mut self, id: ThreadId, waiter: Waiter)
         requires { IsSome (request_of self.old id) }
-        ensures { (q : ThreadId) → request_of self.new q ≡ put same_thread (request_of self.old) id (Some waiter) q }
+        ensures { request_of self.new ≡ put same_thread (request_of self.old) id (Some waiter) }
     {
         *self.requests.get_mut(&id).unwrap() = waiter;
     }
 
     /// Ends the request of a thread.
     pub fn end(&mut self, id: ThreadId)
-        ensures { (q : ThreadId) → request_of self.new q ≡ put same_thread (request_of self.old) id None q }
+        ensures { request_of self.new ≡ put same_thread (request_of self.old) id None }
     {
         let _ = self.requests.swap_remove(&id);
     }
