@@ -55,6 +55,11 @@ position-none byte text none =
     let past = ltb-false _ _ (none_of (nat_lt (position_or_len p text) (length text)) (position_or_len p text) none) in
     lacks-from_places byte text (λ k below. eqb-false _ byte (fails_before_first p text k 0 (omega arith)))
 
+-- a text with a byte doesn't lack it
+pub lacks-not : (byte : ℕ) (xs ys : List ℕ) → ¬ (IsTrue (lacks byte (xs ++ byte ∷ ys)))
+lacks-not byte [] ys h = eqb-false byte byte (lacks-parts byte byte ys h).0 refl
+lacks-not byte (x ∷ xs) ys h = lacks-not byte xs ys (lacks-parts byte x (xs ++ byte ∷ ys) h).1
+
 -- a text before a separator is found again
 pub cut-injective : (byte : ℕ) (xs ys left right : List ℕ) → IsTrue (lacks byte xs) → IsTrue (lacks byte ys)
     → xs ++ byte ∷ left ≡ ys ++ byte ∷ right → (xs ≡ ys) × (left ≡ right)
