@@ -1,3 +1,4 @@
 pub mod Name
 pub mod Owner
+pub mod Key
 pub mod Channel

@@ -12,5 +12,5 @@ pub use channel::Channel;
 pub use kind::{Kind, Wakes};
 pub use name::{NAME_BYTES, Name, NameFault};
 pub use owner::{MOST_THREADS, OWNER_BYTES, Owner, OwnerFault};
-pub use part::Part;
+pub use part::{Part, key};
 pub use post::{Due, Post, Push};

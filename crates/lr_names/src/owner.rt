@@ -77,11 +77,12 @@ impl Owner {
         self.thread
     }
 
-    /// The text of the owner: its id, a colon and its thread.
+    /// The text of the owner: its id, a colon and its thread. No other owner has it.
     pub fn brief(&self) -> Brief
         ensures text { result ≡ owner_text self.now }
         ensures short { length result ≤ OWNER_BYTES }
         ensures owner { IsOwner self.now }
+        ensures alone { (other : ThreadOfClient) → IsOwner other → result ≡ owner_text other → self.now ≡ other }
     {
         id_fits(self.client.as_bytes());
         self.written()
