@@ -6,7 +6,7 @@ ghost use Rattle.lr_model.specs.declared.event.Event.TheVariants as events;
 ghost use Rattle.lr_model.specs.declared.waiter.ThreadId.{ThreadId};
 ghost use Rattle.lr_model.specs.Moment.{last_moment};
 ghost use Rattle.lr_model.specs.Within.{IsClient, IsWithin};
-ghost use Rattle.lr_model.specs.World.{shown, next, thread_of};
+ghost use Rattle.lr_model.specs.World.{shown, next, thread_of, owner_of, phase_of};
 ghost use Rattle.lr_model.specs.Sound.{IsInOrder};
 ghost use Rattle.lr_names.specs.Owner.{IsThread};
 ghost use Rattle.lr_world.specs.Machine.{world};
