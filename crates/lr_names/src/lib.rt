@@ -7,6 +7,8 @@ mod name;
 mod owner;
 mod part;
 mod post;
+#[cfg(test)]
+mod tests;
 
 pub use channel::{Channel, ChannelFault, write_channel};
 pub use kind::{Kind, Wakes};
