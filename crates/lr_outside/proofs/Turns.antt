@@ -7,7 +7,8 @@ use Rattle.std.proofs.Math.Seq.{take-append-le}
 use Rattle.lr_outside.specs.declared.line_reader.LineTurn.{LineTurn}
 use Rattle.lr_outside.specs.declared.line_reader.LineTurn.TheVariants.{Line, End, TooLong, Fault}
 use Rattle.lr_outside.specs.Reading.{Reading}
-use Rattle.lr_outside.specs.Lines.{lines_of, HasNoLineEnd, IsFirstLine, BeginsTooLong, IsTurn, ahead, WhereKnown, IsUndecided, IsKeptLine, IsKeptTooLong, IsKeptTurn, IsLastTurn}
+use Rattle.lr_outside.specs.Lines.{lines_of, HasNoLineEnd, IsFirstLine, BeginsTooLong, IsTurn, ahead, WhereKnown, IsUndecided}
+use Rattle.lr_outside.specs.KeptTurns.{IsKeptLine, IsKeptTooLong, IsKeptTurn, IsLastTurn}
 use Rattle.lr_outside.specs.Window.{Grows}
 use Rattle.lr_outside.proofs.Lines.{lines_of-line, lines_of-last, begins_too_long}
 

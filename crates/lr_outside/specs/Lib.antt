@@ -1,3 +1,5 @@
+pub mod Adapters
+pub mod KeptTurns
 pub mod Lines
 pub mod Memory
 pub mod Plain

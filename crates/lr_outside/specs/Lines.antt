@@ -64,32 +64,3 @@ FaultHasCause before now kept Fault = Rose before now × IsUndecided kept
 FaultHasCause before now kept (Line _) = ⊤
 FaultHasCause before now kept End = ⊤
 FaultHasCause before now kept TooLong = ⊤
-
--- What the kept bytes alone tell, without a read: nothing yet, their first line, or that it is too long.
-pub record IsKeptLine (old new : Reading) (line : List ℕ) : Type 0 where
-  pub bytes : old.kept ≡ line ++ 10 ∷ new.kept
-  pub whole : HasNoLineEnd line
-  pub fits : length line ≤ LINE_BYTES
-  pub free : new.stuck ≡ false
-
-pub record IsKeptTooLong (old new : Reading) : Type 0 where
-  pub count : ℕ
-  pub long : LINE_BYTES < count
-  pub within : count ≤ length old.kept
-  pub whole : HasNoLineEnd (take count old.kept)
-  pub kept : new.kept ≡ old.kept
-  pub stuck : new.stuck ≡ true
-
-abbrev pub IsKeptTurn : Reading → Reading → Option LineTurn → Type 0
-IsKeptTurn old new None = (new ≡ old) × IsUndecided old.kept
-IsKeptTurn old new (Some (Line line)) = IsKeptLine old new line
-IsKeptTurn old new (Some TooLong) = IsKeptTooLong old new
-IsKeptTurn old new (Some End) = ⊥
-IsKeptTurn old new (Some Fault) = ⊥
-
--- what is kept where the source is at its end: the last line, or nothing
-abbrev pub IsLastTurn : Reading → Reading → LineTurn → Type 0
-IsLastTurn old new (Line line) = (line ≡ old.kept) × (line ≢ []) × (new.kept ≡ []) × (new.stuck ≡ false)
-IsLastTurn old new End = (old.kept ≡ []) × (new ≡ old)
-IsLastTurn old new TooLong = ⊥
-IsLastTurn old new Fault = ⊥

@@ -1,7 +1,8 @@
 // A reader of lines.
 ghost use Rattle.std.specs.Prelude.{◌≡◌, ◌+◌, ◌<◌, ◌≤◌, ◌↔◌, [], IfOk, IfSome, IfNone, IsTrue, false, length, take, slice_index, Contains};
 ghost use Rattle.std.specs.Bool.{OnTrue, OnFalse};
-ghost use Rattle.lr_outside.specs.Lines.{HasNoLineEnd, ahead, WhereKnown, IsTurn, FaultHasCause, IsUndecided, IsKeptTurn, IsLastTurn};
+ghost use Rattle.lr_outside.specs.Lines.{HasNoLineEnd, ahead, WhereKnown, IsTurn, FaultHasCause, IsUndecided};
+ghost use Rattle.lr_outside.specs.KeptTurns.{IsKeptTurn, IsLastTurn};
 
 use crate::window::Window;
 use crate::{LINE_BYTES, ReadTurn, Source};

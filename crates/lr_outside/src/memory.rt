@@ -55,7 +55,7 @@ impl<'a> MemSource<'a> {
 impl Source for MemSource<'_> {
     ghost left = { λ s. Some (unread_bytes s) };
 
-    ghost faults = { λ s. s.faults };
+    ghost faults = { read_faults };
 
     fn read(&mut self, buffer: &mut [u8]) -> ReadTurn
         requires { 0 < length buffer.old }
@@ -121,7 +121,7 @@ impl<'a> MemSink<'a> {
 impl Sink for MemSink<'_> {
     ghost held = { λ s. Some (held_bytes s) };
 
-    ghost faults = { λ s. s.faults };
+    ghost faults = { write_faults };
 
     fn write(&mut self, piece: &[u8]) -> WriteTurn
         requires { 0 < length piece.now }

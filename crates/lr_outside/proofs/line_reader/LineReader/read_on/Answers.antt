@@ -3,7 +3,8 @@ use Rattle.std.specs.Io.KnownBytes.{Keeps}
 use Rattle.std.proofs.KnownBytes.{Keeps-trans}
 use Rattle.lr_outside.specs.Reading.{Reading}
 use Rattle.lr_outside.specs.Window.{kept_bytes}
-use Rattle.lr_outside.specs.Lines.{IsTurn, IsLastTurn, ahead}
+use Rattle.lr_outside.specs.Lines.{IsTurn, ahead}
+use Rattle.lr_outside.specs.KeptTurns.{IsLastTurn}
 use Rattle.lr_outside.proofs.Turns.{WhereKnown-after, kept_turn, last_turn, ahead-grown}
 use Rattle.lr_outside.proofs.line_reader.LineReader.read_on.Goals as goal
 
