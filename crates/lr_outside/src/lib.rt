@@ -20,3 +20,6 @@ pub use status::Status;
 
 /// The greatest length of a [`Line`], in bytes.
 pub const LINE_BYTES: usize = 512;
+
+#[cfg(test)]
+mod tests;

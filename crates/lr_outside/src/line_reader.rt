@@ -17,7 +17,7 @@ const LF: u8 = b'\n';
 pub type Line = ShortText<512>;
 
 /// What [`LineReader::next`] gives.
-#[derive(Clone, Copy)]
+#[derive(Clone, Copy, PartialEq, Eq)]
 pub enum LineTurn {
     /// The next line.
     Line(Line),
