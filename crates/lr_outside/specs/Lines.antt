@@ -1,7 +1,6 @@
 -- Lines of bytes, and what one turn of a reader of lines gives.
-use Rattle.std.specs.Prelude.{true, false, ◌≡◌, ◌≢◌, ◌⊎◌, ◌==◌, if◌then◌else◌, ℕ, ◌<◌, ◌≤◌, List, [], ◌∷◌, ◌++◌, length, take, ⊤, Option, Some, None, All}
+use Rattle.std.specs.Prelude.{◌≡◌, ◌≢◌, ◌⊎◌, ◌==◌, if◌then◌else◌, ℕ, ◌<◌, ◌≤◌, List, [], ◌∷◌, ◌++◌, length, ⊤, Option, Some, None, All}
 use Rattle.std.specs.Io.KnownBytes.{prepend_known}
-use Rattle.lr_outside.specs.Reading.{Reading}
 use Rattle.lr_outside.specs.Turns.{Rose}
 use Rattle.lr_outside.specs.declared.TheConstants.{LINE_BYTES}
 use Rattle.lr_outside.specs.declared.line_reader.LineTurn.{LineTurn}

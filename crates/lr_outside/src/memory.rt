@@ -1,7 +1,7 @@
 // A source and a sink in memory, whose calls fail where they are told to.
-ghost use Rattle.std.specs.Prelude.{◌≡◌, ◌<◌, ◌≤◌, ◌↔◌, [], Some, length, Contains, IsTrue};
+ghost use Rattle.std.specs.Prelude.{◌≡◌, ◌<◌, ◌≤◌, ◌↔◌, [], Some, length, Contains};
 ghost use Rattle.lr_outside.specs.Turns.{ReadsFront, FailedReadRose, WritesFront, FailedWriteRose};
-ghost use Rattle.lr_outside.specs.Memory.{all_bytes, next_call, unread_bytes, next_piece, read_faults, IsNextReadListed, CountsRead, GivesPiece, held_bytes, write_faults, IsNextWriteListed, CountsWrite, TakesWhole};
+ghost use Rattle.lr_outside.specs.Memory.{all_bytes, unread_bytes, next_piece, read_faults, IsNextReadListed, CountsRead, GivesPiece, held_bytes, write_faults, IsNextWriteListed, CountsWrite, TakesWhole};
 
 use crate::{ReadTurn, Sink, Source, WriteTurn};
 use std::alloc::Global;
@@ -59,7 +59,8 @@ impl Source for MemSource<'_> {
 
     fn read(&mut self, buffer: &mut [u8]) -> ReadTurn
         requires { 0 < length buffer.old }
-        ensures bytes { ReadsFront (Some (unread_bytes self.old)) (Some (unread_bytes self.new)) buffer.new result }
+        ensures bytes { ReadsFront (Some (unread_bytes self.old)) (Some (unread_bytes self.new))
+            buffer.new result }
         ensures later { read_faults self.old ≤ read_faults self.new }
         ensures fault { FailedReadRose (read_faults self.old) (read_faults self.new) result }
 
@@ -125,7 +126,8 @@ impl Sink for MemSink<'_> {
 
     fn write(&mut self, piece: &[u8]) -> WriteTurn
         requires { 0 < length piece.now }
-        ensures bytes { WritesFront (Some (held_bytes self.old)) (Some (held_bytes self.new)) piece.now result }
+        ensures bytes { WritesFront (Some (held_bytes self.old)) (Some (held_bytes self.new))
+            piece.now result }
         ensures later { write_faults self.old ≤ write_faults self.new }
         ensures fault { FailedWriteRose (write_faults self.old) (write_faults self.new) result }
 
