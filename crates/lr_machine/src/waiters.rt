@@ -2,7 +2,7 @@ ghost use Rattle.std.specs.Prelude.{◌≡◌, ℕ, List, [], Some, None, IsSome
 ghost use Rattle.lr_model.specs.declared.waiter.ThreadId.{ThreadId};
 ghost use Rattle.lr_model.specs.Table.{put};
 ghost use Rattle.lr_model.specs.World.{same_thread};
-ghost use Rattle.lr_world.specs.Waiters.{request_of};
+ghost use Rattle.lr_machine.specs.Waiters.{request_of};
 
 use indexmap::IndexMap;
 use lr_model::{ThreadId, Waiter};

@@ -9,8 +9,8 @@ ghost use Rattle.lr_model.specs.World.{owner_of, phase_of, begin_row, ask_row, a
 ghost use Rattle.lr_model.specs.declared.waiter.Stage.TheVariants.{Answered};
 ghost use Rattle.lr_model.specs.History.{after};
 ghost use Rattle.lr_model.specs.Sound.{IsInOrder};
-ghost use Rattle.lr_world.specs.Waiters.{request_of};
-ghost use Rattle.lr_world.specs.Machine.{world, row_table, take_table};
+ghost use Rattle.lr_machine.specs.Waiters.{request_of};
+ghost use Rattle.lr_machine.specs.Machine.{world, row_table, take_table};
 
 use crate::server::Server;
 use crate::waiters::Waiters;

@@ -4,9 +4,9 @@ use Rattle.lr_model.specs.declared.waiter.ThreadId.{ThreadId}
 use Rattle.lr_model.specs.declared.waiter.Waiter.{Waiter}
 use Rattle.lr_model.specs.Table.{put}
 use Rattle.lr_model.specs.World.{call_entry, caller_of, same_thread}
-use Rattle.lr_world.specs.Waiters.{request_of}
-use Rattle.lr_world.proofs.Rows.{executed}
-use Rattle.lr_world.proofs.steps.exec.Goals as goal
+use Rattle.lr_machine.specs.Waiters.{request_of}
+use Rattle.lr_machine.proofs.Rows.{executed}
+use Rattle.lr_machine.proofs.steps.exec.Goals as goal
 
 pub returns-clause-next : goal.returns-clause-next
 returns-clause-next g c =

@@ -4,7 +4,7 @@ ghost use Rattle.lr_model.specs.Within.{IsWithin};
 ghost use Rattle.lr_model.specs.Sound.{IsInOrder, IsSound};
 ghost use Rattle.lr_model.specs.Transcript.{event_limit};
 ghost use Rattle.lr_model.specs.World.{shown, next, signed, acts_of};
-ghost use Rattle.lr_world.specs.Machine.{world, world_of};
+ghost use Rattle.lr_machine.specs.Machine.{world, world_of};
 
 use crate::server::Server;
 use crate::steps;
@@ -29,7 +29,7 @@ pub struct Machine<S: Server + Drop> {
 }
 
 impl<S: Server + Drop> Model for Machine<S> {
-    ghost use Rattle.lr_world.specs.Machine.{Known, IsRunning};
+    ghost use Rattle.lr_machine.specs.Machine.{Known, IsRunning};
 
     ghost Value = { Known };
 

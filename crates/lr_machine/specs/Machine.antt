@@ -9,7 +9,7 @@ use Rattle.lr_model.specs.Sound.{IsInOrder}
 use Rattle.lr_model.specs.Transcript.{event_limit}
 use Rattle.lr_model.specs.Table.{put}
 use Rattle.lr_model.specs.World.{World, same_thread}
-use Rattle.lr_world.specs.Waiters.{request_of}
+use Rattle.lr_machine.specs.Waiters.{request_of}
 
 -- what is known of a machine: the server's history, the moment, the requests that threads have begun, and how many
 -- events were applied

@@ -1,8 +1,8 @@
 use Rattle.std.proofs.Common.{◌≡◌, ◌++◌, ap, ◌∙◌}
 use Rattle.lr_model.specs.World.{World, signed, acts_of}
 use Rattle.lr_model.proofs.Schedules.{sound, next_signed}
-use Rattle.lr_world.specs.Machine.{Known, world, world_of}
-use Rattle.lr_world.proofs.machine.Machine.apply.Goals as goal
+use Rattle.lr_machine.specs.Machine.{Known, world, world_of}
+use Rattle.lr_machine.proofs.machine.Machine.apply.Goals as goal
 
 pub returns-in_err-shown-clause-sound : goal.returns-in_err-shown-clause-sound
 returns-in_err-shown-clause-sound g c = sound (world (g.S.Server.history c.run.new.server) c.run.new.moment c.run.new.waiters) c.run.ensures.in_order

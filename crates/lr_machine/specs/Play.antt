@@ -1,11 +1,11 @@
 -- How a run of a schedule may end, and what was written then.
-use Rattle.std.specs.Prelude.{◌≡◌, ◌≢◌, ◌⊎◌, ℕ, ◌+◌, List, [], ◌∷◌, ◌++◌, length, codes, flat_map, Option, Some, ⊥}
+use Rattle.std.specs.Prelude.{◌≡◌, ◌≢◌, ◌⊎◌, ℕ, ◌+◌, List, [], ◌∷◌, ◌++◌, length, codes, flat_map, Option, Some}
 use Rattle.lr_outside.specs.Lines.{lines_of, HasNoLineEnd}
 use Rattle.lr_outside.specs.Turns.{Rose}
 use Rattle.lr_outside.specs.declared.status.Status.{Status}
 use Rattle.lr_outside.specs.declared.status.Status.TheVariants.{Done, Usage, ReadFault, WriteFault, BadLine, NoMemory, TooMany, Wrong, Closed}
 use Rattle.lr_model.specs.declared.schedule_line.ScheduleLine.{ScheduleLine}
-use Rattle.lr_model.specs.declared.schedule_line.ScheduleLine.TheVariants as lines
+use Rattle.lr_model.specs.declared.schedule_line.ScheduleLine.TheVariants as kinds
 use Rattle.lr_model.specs.Transcript.{Transcript, AreEvents, IsLine}
 use Rattle.lr_model.specs.World.{first_world}
 
@@ -66,7 +66,7 @@ pub record EndsRefused (ls : List (List ℕ)) : Type 0 where
   pub line : List ℕ
   pub lines : ls ≡ earlier ++ line ∷ []
   pub events : AreEvents 1 earlier
-  pub refused : IsLine (length earlier + 1) line lines.Bad ⊎ IsLine (length earlier + 1) line lines.TooMany
+  pub refused : IsLine (length earlier + 1) line kinds.Bad ⊎ IsLine (length earlier + 1) line kinds.TooMany
 
 -- A front was written of what some lines give with which the schedule begins: whole lines that were read, or the lines
 -- up to the first that is no event.
@@ -85,8 +85,8 @@ pub record WrittenInPart (all rest before held : List ℕ) : Type 0 where
 -- what is known at each end
 abbrev pub EndsSo : Status → List ℕ → List ℕ → List ℕ → List ℕ → Type 0
 EndsSo Done all rest before held = RanThrough all rest before held
-EndsSo (BadLine number) all rest before held = StoppedAt number lines.Bad all before held
-EndsSo (TooMany number) all rest before held = StoppedAt number lines.TooMany all before held
+EndsSo (BadLine number) all rest before held = StoppedAt number kinds.Bad all before held
+EndsSo (TooMany number) all rest before held = StoppedAt number kinds.TooMany all before held
 EndsSo ReadFault all rest before held = BrokeOff all rest before held
 EndsSo WriteFault all rest before held = WrittenInPart all rest before held
 EndsSo NoMemory all rest before held = WrittenInPart all rest before held

@@ -3,8 +3,8 @@ use Rattle.lr_model.specs.declared.waiter.ThreadId.{ThreadId}
 use Rattle.lr_model.specs.declared.waiter.Waiter.{Waiter}
 use Rattle.lr_model.proofs.Tables.{one_table}
 use Rattle.lr_model.specs.World.{same_thread}
-use Rattle.lr_world.specs.Waiters.{request_of}
-use Rattle.lr_world.proofs.waiters.Waiters.add.Goals as goal
+use Rattle.lr_machine.specs.Waiters.{request_of}
+use Rattle.lr_machine.proofs.waiters.Waiters.add.Goals as goal
 
 pub returns-clause-added : goal.returns-clause-added
 returns-clause-added c = one_table _ _ (λ q.

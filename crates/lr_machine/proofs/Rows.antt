@@ -10,8 +10,8 @@ use Rattle.lr_model.specs.Answer.{reply_of}
 use Rattle.lr_model.specs.Table.{put}
 use Rattle.lr_model.specs.History.{after}
 use Rattle.lr_model.specs.World.{World, first_state, same_thread, at_stage, asked_at, asked_of, answered_row, call_entry, caller_of, command_connection, with_waiter, with_entry, next_exec, replied_at}
-use Rattle.lr_world.specs.Waiters.{request_of}
-use Rattle.lr_world.specs.Machine.{world}
+use Rattle.lr_machine.specs.Waiters.{request_of}
+use Rattle.lr_machine.specs.Machine.{world}
 
 module _ (old new : List Entry) (moment : ℕ) (requests after_it : List (ThreadId × Waiter)) (id : ThreadId) (w : Waiter) (asking : Asking) (reply : Reply) where
   pub executed : request_of requests id ≡ Some w → asked_at w.stage ≡ Some asking

@@ -5,9 +5,9 @@ use Rattle.lr_model.specs.Sound.{IsInOrder}
 use Rattle.lr_model.specs.Within.{IsWithin}
 use Rattle.lr_model.specs.World.{World}
 use Rattle.lr_model.proofs.Schedules.{InOrder, next_good}
-use Rattle.lr_world.specs.Machine.{world}
-use Rattle.lr_world.proofs.Results.{by_result}
-use Rattle.lr_world.proofs.machine.run.Goals as goal
+use Rattle.lr_machine.specs.Machine.{world}
+use Rattle.lr_machine.proofs.Results.{by_result}
+use Rattle.lr_machine.proofs.machine.run.Goals as goal
 
 pub returns-in-Exec-clause-in_order : goal.returns-in-Exec-clause-in_order
 returns-in-Exec-clause-in_order g c =
