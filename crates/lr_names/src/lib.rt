@@ -8,7 +8,7 @@ mod owner;
 mod part;
 mod post;
 
-pub use channel::Channel;
+pub use channel::{Channel, ChannelFault, write_channel};
 pub use kind::{Kind, Wakes};
 pub use name::{NAME_BYTES, Name, NameFault};
 pub use owner::{MOST_THREADS, OWNER_BYTES, Owner, OwnerFault};
