@@ -1,0 +1,10 @@
+//! The spelling of a schedule: which event a line is, and what is written of it.
+#![tactic(auto)]
+
+mod laws;
+mod read;
+mod spelled;
+
+pub use laws::one_reading;
+pub use read::read_line;
+pub use spelled::{MOST_CLIENTS, MOST_EVENTS};
