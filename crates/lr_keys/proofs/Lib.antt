@@ -1,1 +1,2 @@
 pub mod FieldMapLemmas
+pub mod KeptLemmas

@@ -1,1 +1,4 @@
 pub mod FieldMap
+pub mod KeySpace
+pub mod Kept
+pub mod Table

@@ -1,0 +1,120 @@
+ghost use Rattle.std.specs.Prelude.{◌≡◌, ◌+◌, ◌<◌, ◌≤◌, [], None, IsSome, IfOk, OnOk, OnErr, is_some, length, option_map};
+ghost use Rattle.std.specs.Option.{option_copied, ForSome};
+ghost use Rattle.lr_keys.specs.KeySpace.{entry_at, plan_at, kind_at, counter_at, field_at, time_left, IsLive, IsSound};
+
+use super::PREPARED_KEYS;
+use super::fault::KeyFault;
+use super::slot::{Slot, Spare};
+use super::value_kind::ValueKind;
+use indexmap::IndexMap;
+use lr_text::Brief;
+use std::alloc::{AllocError, Global};
+use std::marker::Model;
+
+/// Keys with a value, and an expiry or none, at a moment.
+///
+/// A moment is a number of milliseconds. A key whose expiry is at most the moment is gone.
+#[derive(Drop)]
+pub struct KeySpace {
+    moment: u64,
+    /// No key expires before this: `u64::MAX` where none expires at all.
+    least_expiry: u64,
+    slots: IndexMap<Brief, Slot>,
+    spares: IndexMap<Brief, Spare>,
+}
+
+impl Model for KeySpace {
+    ghost use Rattle.lr_keys.specs.KeySpace.{Keys};
+
+    ghost Value = { Keys };
+
+    ghost use Rattle.lr_keys.specs.Kept.{shown_keys, IsKept};
+
+    ghost view = { shown_keys };
+
+    ghost invariant = { IsKept };
+}
+
+impl KeySpace {
+    ghost use Rattle.lr_keys.specs.Kept.{shown};
+
+    /// No keys, at moment 0.
+    pub fn new(alloc: Global) -> Result<Self, AllocError>
+        ensures moment { IfOk result (λ keys. keys.moment ≡ 0) }
+        ensures none { IfOk result (λ keys. entry_at keys ≡ (λ _. None)) }
+        ensures unprepared { IfOk result (λ keys. plan_at keys ≡ (λ _. None)) }
+    {
+        Ok(KeySpace {
+            moment: 0,
+            least_expiry: u64::MAX,
+            slots: IndexMap::new(alloc),
+            spares: IndexMap::with_capacity(alloc, PREPARED_KEYS)?,
+        })
+    }
+
+    /// The moment.
+    pub fn moment(&self) -> u64
+        ensures moment { result ≡ self.now.moment }
+        ensures sound { IsSound self.now }
+    {
+        self.moment
+    }
+
+    // What is at the key.
+    fn slot(&self, key: &Brief) -> Option<&Slot>
+        ensures entry { entry_at self.now key.now ≡ option_map shown (option_copied result) }
+        ensures live { ForSome (option_copied result) (λ s. IsLive self.now.moment (shown s)) }
+    {
+        self.slots.get(key)
+    }
+
+    /// Whether the key is there.
+    pub fn exists(&self, key: &Brief) -> bool
+        ensures { result ≡ is_some (entry_at self.now key.now) }
+    {
+        self.slot(key).is_some()
+    }
+
+    /// The kind of the key's value, if the key is there.
+    pub fn kind_of(&self, key: &Brief) -> Option<ValueKind>
+        ensures { result ≡ kind_at (entry_at self.now key.now) }
+    {
+        match self.slot(key) {
+            Some(slot) => Some(slot.value.kind()),
+            None => None,
+        }
+    }
+
+    /// The milliseconds that are left of the key: -2 where it is absent, and -1 where it has no expiry.
+    pub fn pttl(&self, key: &Brief) -> i64
+        ensures { result ≡ time_left self.now.moment (entry_at self.now key.now) }
+    {
+        match self.slot(key) {
+            Some(slot) => match slot.expiry {
+                Some(expiry) => (expiry - self.moment) as i64,
+                None => -1,
+            },
+            None => -2,
+        }
+    }
+
+    /// The number of a field of the hash, if the field is there.
+    pub fn hget(&self, key: &Brief, field: &Brief) -> Result<Option<i64>, KeyFault>
+        ensures { result ≡ field_at field.now (entry_at self.now key.now) }
+    {
+        match self.slot(key) {
+            Some(slot) => slot.value.field(field),
+            None => Ok(None),
+        }
+    }
+
+    /// The number of the counter, if the key is there.
+    pub fn get(&self, key: &Brief) -> Result<Option<i64>, KeyFault>
+        ensures { result ≡ counter_at (entry_at self.now key.now) }
+    {
+        match self.slot(key) {
+            Some(slot) => slot.value.counter(),
+            None => Ok(None),
+        }
+    }
+}
