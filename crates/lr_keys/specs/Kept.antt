@@ -39,9 +39,10 @@ HasRoom (Hash fields) = 0 < fields.room
 HasRoom (Counter _) = ⊤
 
 -- what memory for a new member of this kind means where the key is there
-abbrev pub IsRoomFor : ValueKind → Option Slot → Type 0
-IsRoomFor HashKind (Some slot) = HasRoom slot.value
-IsRoomFor _ _ = ⊤
+abbrev pub IsRoomFor : Option Slot → ValueKind → Type 0
+IsRoomFor None _ = ⊤
+IsRoomFor (Some slot) HashKind = HasRoom slot.value
+IsRoomFor (Some slot) _ = ⊤
 
 -- what it means for the spare hash
 abbrev pub IsSpareFor : ValueKind → ℕ → Type 0
@@ -51,7 +52,7 @@ IsSpareFor _ room = ⊤
 pub record IsReady (o : Option Slot) (s : Spare) : Type 0 where
   pub empty : s.hash.pairs ≡ []
   pub spare : IsSpareFor s.kind s.hash.room
-  pub room : IsRoomFor s.kind o
+  pub room : IsRoomFor o s.kind
 
 -- a slot is live, and expires no earlier than the bound
 pub record IsSoundSlot (moment least : ℕ) (slot : Slot) : Type 0 where

@@ -131,18 +131,23 @@ abbrev pub entry_with_number : ℤ → Option Entry → Entry
 entry_with_number number None = record { value = Number number; expiry = None }
 entry_with_number number (Some e) = record e { value = Number number }
 
--- the entry without the field: a hash that becomes empty is removed (Redis command page HDEL)
-abbrev pub entry_of_fields : Option ℕ → List (List ℕ × ℤ) → Option Entry
-entry_of_fields expiry [] = None
-entry_of_fields expiry (p ∷ ps) = Some (record { value = Fields (p ∷ ps); expiry = expiry })
+-- the value without the field
+abbrev pub content_without_field : List ℕ → Content → Content
+content_without_field field (Fields pairs) = Fields (without_field field pairs)
+content_without_field field (Number n) = Number n
 
-abbrev pub entry_without_in : List ℕ → Option ℕ → Content → Option Entry
-entry_without_in field expiry (Fields pairs) = entry_of_fields expiry (without_field field pairs)
-entry_without_in field expiry (Number n) = Some (record { value = Number n; expiry = expiry })
+abbrev pub is_empty_hash : Content → Bool
+is_empty_hash (Fields []) = true
+is_empty_hash (Fields (p ∷ ps)) = false
+is_empty_hash (Number n) = false
+
+-- the entry without the field: a hash that becomes empty is removed (Redis command page HDEL)
+abbrev pub entry_with_value : Content → Option ℕ → Option Entry
+entry_with_value value expiry = if is_empty_hash value then None else Some (record { value = value; expiry = expiry })
 
 abbrev pub entry_without_field : List ℕ → Option Entry → Option Entry
 entry_without_field field None = None
-entry_without_field field (Some e) = entry_without_in field e.expiry e.value
+entry_without_field field (Some e) = entry_with_value (content_without_field field e.value) e.expiry
 
 -- the entry with this expiry (Redis command page PEXPIREAT)
 abbrev pub entry_with_expiry : ℕ → Option Entry → Option Entry

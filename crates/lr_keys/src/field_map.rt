@@ -1,4 +1,4 @@
-ghost use Rattle.std.specs.Prelude.{◌≡◌, ◌+◌, ◌<◌, ◌≤◌, [], None, IsSome, IfOk, OnOk, OnErr, is_some, length};
+ghost use Rattle.std.specs.Prelude.{◌≡◌, ◌+◌, ◌<◌, ◌≤◌, [], None, IsSome, IfOk, OnOk, OnErr, is_some, length, IsTrue, IsOk, false, ◌↔◌};
 ghost use Rattle.lr_keys.specs.FieldMap.{field_value, with_field, without_field, sum_of};
 
 use indexmap::IndexMap;
@@ -64,6 +64,13 @@ impl FieldMap {
         self.numbers.len()
     }
 
+    /// Whether there are no fields.
+    pub(crate) fn is_empty(&self) -> bool
+        ensures { IsTrue result ↔ (self.now.pairs ≡ []) }
+    {
+        self.numbers.is_empty()
+    }
+
     /// The number of a field.
     pub(crate) fn get(&self, field: &Brief) -> Option<i64>
         ensures { result ≡ field_value field.now self.now.pairs }
@@ -87,6 +94,26 @@ impl FieldMap {
         ensures room { self.old.room ≤ self.new.room + 1 }
     {
         self.numbers.insert(*field, number).unwrap();
+    }
+
+    /// Puts a new field last. With no room of its own for that, it takes memory, and leaves what room there was.
+    pub(crate) fn add(
+        &mut self,
+        field: &Brief,
+        number: i64,
+        has_room: bool,
+    ) -> Result<(), AllocError>
+        requires { IsTrue has_room → 0 < self.old.room }
+        ensures ok { OnOk result (self.new.pairs ≡ with_field field.now number self.old.pairs) }
+        ensures err { OnErr result (self.new.pairs ≡ self.old.pairs) }
+        ensures succeeds { IsTrue has_room → IsOk result }
+        ensures room { has_room ≡ false → 0 < self.old.room → 0 < self.new.room }
+    {
+        if !has_room {
+            self.reserve(2)?;
+        }
+        self.push(field, number);
+        Ok(())
     }
 
     /// Removes a field, and says whether it was there. The others keep their order.
