@@ -1,2 +1,3 @@
 pub mod FieldMapLemmas
 pub mod KeptLemmas
+pub mod TableLaws

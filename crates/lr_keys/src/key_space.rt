@@ -1,15 +1,19 @@
-ghost use Rattle.std.specs.Prelude.{◌≡◌, ◌+◌, ◌<◌, ◌≤◌, [], None, IsSome, IfOk, OnOk, OnErr, is_some, length, option_map};
+ghost use Rattle.std.specs.Prelude.{◌≡◌, ◌+◌, ◌<◌, ◌≤◌, [], None, IsSome, IfOk, OnOk, OnErr, is_some, false, option_map};
 ghost use Rattle.std.specs.Option.{option_copied, ForSome};
-ghost use Rattle.lr_keys.specs.KeySpace.{entry_at, plan_at, kind_at, counter_at, field_at, time_left, IsLive, IsSound};
+ghost use Rattle.lr_keys.specs.KeySpace.{Answers, IsLive, IsPrepared, IsSound, entry_at, plan_at, is_plan_for, plans_after, kind_at, hash_at, counter_at, field_at, is_there, raised_in, raised_counter, entry_with_field, entry_with_number, entry_without_field, entry_with_expiry, time_left, live_entries};
+ghost use Rattle.lr_keys.specs.Table.{put};
 
-use super::PREPARED_KEYS;
 use super::fault::KeyFault;
 use super::slot::{Slot, Spare};
 use super::value_kind::ValueKind;
+use super::{MAX_LEASE, PREPARED_KEYS};
 use indexmap::IndexMap;
 use lr_text::Brief;
 use std::alloc::{AllocError, Global};
 use std::marker::Model;
+
+/// The fields of a hash and their numbers, in order of making.
+pub type Fields = Vec<(Brief, i64)>;
 
 /// Keys with a value, and an expiry or none, at a moment.
 ///
@@ -116,5 +120,45 @@ impl KeySpace {
             Some(slot) => slot.value.counter(),
             None => Ok(None),
         }
+    }
+
+    /// The fields of the hash and their numbers, in order of making.
+    pub fn hgetall(&self, alloc: Global, key: &Brief) -> Result<Fields, KeyFault>
+        ensures { Answers (λ fields. fields.items) result (hash_at (entry_at self.now key.now)) }
+    {
+        match self.slot(key) {
+            Some(slot) => slot.value.pairs(alloc),
+            None => Ok(Vec::new(alloc)),
+        }
+    }
+
+    /// Removes the key, and says whether it was there.
+    pub fn del(&mut self, key: &Brief) -> bool
+        ensures found { result ≡ is_some (entry_at self.old key.now) }
+        ensures removed { entry_at self.new ≡ put key.now None (entry_at self.old) }
+        ensures moment { self.new.moment ≡ self.old.moment }
+        ensures prepared { plan_at self.new ≡ plan_at self.old }
+        ensures absent { result ≡ false → self.new ≡ self.old }
+    {
+        self.slots.swap_remove(key).is_some()
+    }
+
+    /// Sets the key's expiry to this many milliseconds from the moment, and says whether the key is there.
+    pub fn pexpire(&mut self, key: &Brief, millis: u64) -> bool
+        requires some { 1 ≤ millis }
+        requires few { millis ≤ MAX_LEASE }
+        ensures found { result ≡ is_some (entry_at self.old key.now) }
+        ensures expires { entry_at self.new ≡ put key.now (entry_with_expiry (self.old.moment + millis) (entry_at self.old key.now)) (entry_at self.old) }
+        ensures moment { self.new.moment ≡ self.old.moment }
+        ensures prepared { plan_at self.new ≡ plan_at self.old }
+        ensures absent { result ≡ false → self.new ≡ self.old }
+    {
+        let expiry = self.moment + millis;
+        let Some(slot) = self.slots.get_mut(key) else {
+            return false;
+        };
+        slot.expiry = Some(expiry);
+        self.least_expiry = self.least_expiry.min(expiry);
+        true
     }
 }

@@ -8,7 +8,7 @@ mod slot;
 mod value_kind;
 
 pub use fault::KeyFault;
-pub use key_space::KeySpace;
+pub use key_space::{Fields, KeySpace};
 pub use value_kind::ValueKind;
 
 /// The greatest moment, in milliseconds: 2^53 - 1.
