@@ -1,18 +1,23 @@
-use Rattle.std.proofs.Common.{◌≡◌, ℕ, Bool, true, false, cond, List, [], ◌∷◌, Option, Some, None, refl, map, is_some, ◌≤◌, ◌<◌, ◌+◌, arith, ap, sym, subst, ◌∙◌}
+use Rattle.std.proofs.Common.{◌≡◌, ℕ, Bool, true, false, cond, List, [], ◌∷◌, Option, Some, None, IsSome, IsTrue, Ok, true≢false, ℤ, refl, map, is_some, length, if◌then◌else◌, ◌≤◌, ◌<◌, ◌+◌, arith, ap, sym, subst, ◌∙◌}
 use Rattle.std.proofs.Math.Nat.{le_trans}
-use Rattle.std.specs.Option.{ForSome, option_map}
+use Rattle.std.specs.Borrow.{MutBor}
+use Rattle.std.specs.Option.{ForSome, option_map, option_copied_mut}
 use Rattle.std.specs.Str.{bytes_eq}
 use Rattle.std.specs.Map.{lookup}
 use Rattle.indexmap.specs.IndexMap.{IndexMap, get, spare, index_map_len, WritesThrough}
-use Rattle.lr_keys.specs.KeySpace.{Keys, Entry, Plan, IsSound, IsLive, entry_at, plan_at}
-use Rattle.lr_keys.specs.Kept.{shown, plan_of, HasRoom, shown_keys, IsReady, IsRoomFor, IsSoundSlot, IsKept}
-use Rattle.lr_keys.specs.declared.TheConstants.{MAX_MOMENT, MAX_LEASE}
+use Rattle.lr_keys.specs.KeySpace.{Content, Fields, Number, Keys, Entry, Plan, content_with_field, is_plan_for, is_there, field_at, field_of, hash_in, IsSound, IsLive, entry_at, plan_at}
+use Rattle.lr_keys.specs.Kept.{shown, shown_value, plan_of, HasRoom, IsSpareFor, shown_keys, IsReady, IsRoomFor, IsSoundSlot, IsKept}
+use Rattle.lr_keys.specs.declared.TheConstants.{MAX_MOMENT, MAX_LEASE, MAX_MEMBERS}
 use Rattle.lr_keys.specs.declared.value_kind.ValueKind.{ValueKind}
 use Rattle.lr_keys.specs.declared.value_kind.ValueKind.TheVariants.{Hash as HashKind, List as ListKind, Zset, Counter as CounterKind}
 use Rattle.lr_keys.specs.Table.{put}
-use Rattle.lr_keys.proofs.TableLaws.{at_each-put}
+use Rattle.lr_keys.proofs.TableLaws.{at_each-put, put-same}
 use Rattle.lr_keys.specs.declared.slot.Slot.{Slot}
 use Rattle.lr_keys.specs.declared.slot.Spare.{Spare}
+use Rattle.lr_keys.specs.declared.slot.Stored.{Stored}
+use Rattle.lr_keys.specs.declared.slot.Stored.TheVariants.{Hash, Counter}
+use Rattle.lr_keys.specs.FieldMap.{field_value, with_field}
+use Rattle.lr_keys.proofs.FieldMapLemmas.{length-with_field_some, length-with_field_there, length-with_field_le}
 use Rattle.lr_keys.specs.declared.key_space.KeySpace.TheInside.{Inside}
 
 -- a look-up among values that are shown by f
@@ -128,3 +133,85 @@ IsSoundSlot-expiring moment least next expiry slot sound ahead near bound = reco
 -- a fact of the value in a `Some`
 pub ForSome-some : {X : Type 0} (P : X → Type 0) (w : X) → P w → ForSome (Some w) P
 ForSome-some P w h = λ x at. subst P (cc at) h
+
+module _ (s t : Inside) (old : Keys) (key : List ℕ) (o w : Option Slot) where
+  -- a change of one slot, as a change of what is shown at the key
+  pub entry_at-changed : (change : Option Entry → Option Entry) → shown_keys s ≡ old → o ≡ get bytes_eq s.slots key → ((q : List ℕ) → get bytes_eq t.slots q ≡ put key w (get bytes_eq s.slots) q) → option_map shown w ≡ change (option_map shown o)
+      → entry_at (shown_keys t) ≡ put key (change (entry_at old key)) (entry_at old)
+  entry_at-changed change view found sets changed =
+      entry_at-set s t old key w view sets ∙ ap (λ e. put key e (entry_at old)) (changed ∙ ap change (sym (entry_at-read s old key o view found)))
+
+module _ (s t : Inside) (key : List ℕ) (w : Slot) (spent : Bool) where
+  -- what is kept stays so once a key has a new member, and what was prepared for that is spent
+  pub IsKept-grown : IsKept s → t.moment ≡ s.moment → t.least_expiry ≡ s.least_expiry
+      → ((q : List ℕ) → get bytes_eq t.slots q ≡ put key (Some w) (get bytes_eq s.slots) q)
+      → ((q : List ℕ) → get bytes_eq t.spares q ≡ (if spent then put key None (get bytes_eq s.spares) else get bytes_eq s.spares) q)
+      → index_map_len t.spares ≤ spare t.slots → IsSoundSlot t.moment t.least_expiry w
+      → (spent ≡ false → (kind : ValueKind) → IsRoomFor (get bytes_eq s.slots key) kind → IsRoomFor (Some w) kind) → IsKept t
+  IsKept-grown kept moment least sets spends room sound room_for = record {
+    moment = subst (λ m. m ≤ MAX_MOMENT) (sym moment) kept.moment;
+    slots = at_each-put (λ q o. ForSome o (IsSoundSlot t.moment t.least_expiry)) (get bytes_eq s.slots) (get bytes_eq t.slots) key (Some w) sets
+        (λ x at. subst (IsSoundSlot t.moment t.least_expiry) (cc at) sound)
+        (λ q slot at. subst (λ (m : ℕ). IsSoundSlot m t.least_expiry slot) (sym moment) (subst (λ (m : ℕ). IsSoundSlot s.moment m slot) (sym least) (kept.slots q slot at)));
+    room = room;
+    ready = at_each-put (λ q o. ForSome (get bytes_eq t.spares q) (IsReady o)) (get bytes_eq s.slots) (get bytes_eq t.slots) key (Some w) sets (here spent spends room_for) (there spent spends);
+  }
+    where
+      there : (b : Bool) → ((q : List ℕ) → get bytes_eq t.spares q ≡ (if b then put key None (get bytes_eq s.spares) else get bytes_eq s.spares) q) → (q : List ℕ) → ForSome (get bytes_eq t.spares q) (IsReady (get bytes_eq s.slots q))
+      there true spends = at_each-put (λ q o. ForSome o (IsReady (get bytes_eq s.slots q))) (get bytes_eq s.spares) (get bytes_eq t.spares) key None spends (λ p at. absurd (cc at)) kept.ready
+      there false spends = λ q p at. kept.ready q p (sym (spends q) ∙ at)
+
+      here : (b : Bool) → ((q : List ℕ) → get bytes_eq t.spares q ≡ (if b then put key None (get bytes_eq s.spares) else get bytes_eq s.spares) q)
+          → (b ≡ false → (kind : ValueKind) → IsRoomFor (get bytes_eq s.slots key) kind → IsRoomFor (Some w) kind) → ForSome (get bytes_eq t.spares key) (IsReady (Some w))
+      here true spends room_for = λ p at. let gone = put-same key None (get bytes_eq s.spares) in let e = spends key in absurd (cc (gone, e, at))
+      here false spends room_for = λ p at. let r = kept.ready key p (sym (spends key) ∙ at) in record { empty = r.empty; spare = r.spare; room = room_for refl p.kind r.room }
+
+-- a slot whose value has room has it for any member
+pub IsRoomFor-any : (w : Slot) → HasRoom w.value → (kind : ValueKind) → IsRoomFor (Some w) kind
+IsRoomFor-any w room HashKind = room
+IsRoomFor-any w room ListKind = tt
+IsRoomFor-any w room Zset = tt
+IsRoomFor-any w room CounterKind = tt
+
+-- a value with a field more is one that a key may hold
+some_with_field : (field : List ℕ) (number : ℤ) (value : Content) (pairs : List (List ℕ × ℤ)) → content_with_field field number value ≡ Fields pairs → 0 < length pairs
+some_with_field field number (Fields before) pairs e = let same : with_field field number before ≡ pairs = cc e in subst (λ (ps : List (List ℕ × ℤ)). 0 < length ps) same (length-with_field_some field number before)
+some_with_field field number (Number n) pairs e = absurd (cc e)
+
+few_with_field : (field : List ℕ) (number : ℤ) (value : Content) (pairs : List (List ℕ × ℤ)) → ((before : List (List ℕ × ℤ)) → value ≡ Fields before → length (with_field field number before) ≤ MAX_MEMBERS) → content_with_field field number value ≡ Fields pairs → length pairs ≤ MAX_MEMBERS
+few_with_field field number (Fields before) pairs few e = let same : with_field field number before ≡ pairs = cc e in subst (λ (ps : List (List ℕ × ℤ)). length ps ≤ MAX_MEMBERS) same (few before refl)
+few_with_field field number (Number n) pairs few e = absurd (cc e)
+
+pub IsSoundSlot-with_field : (moment least : ℕ) (u : Slot) (x : Stored) (field : List ℕ) (number : ℤ) → IsSoundSlot moment least u → shown_value x ≡ content_with_field field number (shown_value u.value)
+    → ((before : List (List ℕ × ℤ)) → shown_value u.value ≡ Fields before → length (with_field field number before) ≤ MAX_MEMBERS) → IsSoundSlot moment least (record u { value = x })
+IsSoundSlot-with_field moment least u x field number sound same few = record {
+  live = record {
+    ahead = sound.live.ahead;
+    near = sound.live.near;
+    some_fields = λ pairs e. some_with_field field number (shown_value u.value) pairs (sym same ∙ e);
+    few_fields = λ pairs e. few_with_field field number (shown_value u.value) pairs few (sym same ∙ e);
+  };
+  bound = sound.bound;
+}
+
+-- what `get_mut` lends is what the table has
+pub IsSome-lent : {X : Type 0} (r : Option (MutBor X)) (o : Option X) → option_copied_mut r ≡ o → IsSome o → IsSome r
+IsSome-lent None o e there = absurd (true≢false (sym there ∙ sym (ap is_some e)))
+IsSome-lent (Some x) o e there = refl
+
+-- a slot is there where what is shown has the field
+pub IsSome-slot : (keys : Keys) (key field : List ℕ) (o : Option Slot) → entry_at keys key ≡ option_map shown o → IsTrue (is_there (field_at field (entry_at keys key))) → IsSome o
+IsSome-slot keys key field None e there = absurd (true≢false (sym there ∙ ap (λ x. is_there (field_at field x)) e))
+IsSome-slot keys key field (Some slot) e there = refl
+
+-- a field that is there leaves few enough fields
+pub few_there : (moment : ℕ) (u : Slot) (field : List ℕ) (number : ℤ) → IsLive moment (shown u) → IsTrue (is_there (field_of field (hash_in (shown_value u.value))))
+    → (before : List (List ℕ × ℤ)) → shown_value u.value ≡ Fields before → length (with_field field number before) ≤ MAX_MEMBERS
+few_there moment u field number live there before e =
+    let found : IsSome (field_value field before) = subst (λ (v : Content). IsTrue (is_there (field_of field (hash_in v)))) e there in
+    omega (arith, length-with_field_there field number before found, live.few_fields before e)
+
+-- one field more, where there are fewer than a key may have
+pub few_more : (u : Slot) (field : List ℕ) (number : ℤ) → ((pairs : List (List ℕ × ℤ)) → hash_in (shown_value u.value) ≡ Ok pairs → length pairs < MAX_MEMBERS)
+    → (before : List (List ℕ × ℤ)) → shown_value u.value ≡ Fields before → length (with_field field number before) ≤ MAX_MEMBERS
+few_more u field number few before e = omega (arith, length-with_field_le field number before, few before (ap hash_in e))

@@ -1,5 +1,7 @@
-ghost use Rattle.std.specs.Prelude.{◌≡◌, ◌+◌, ◌<◌, ◌≤◌, [], None, IsSome, IfOk, OnOk, OnErr, is_some, false, option_map};
+ghost use Rattle.std.specs.Prelude.{◌≡◌, ℕ, ℤ, List, ◌+◌, ◌<◌, ◌≤◌, length, None, IsSome, IsTrue, IsOk, IfOk, OnOk, OnErr, is_some, false, option_map, if◌then◌else◌};
 ghost use Rattle.std.specs.Option.{option_copied, ForSome};
+ghost use Rattle.std.specs.Str.{bytes_eq};
+ghost use Rattle.indexmap.specs.IndexMap.{get, index_map_len};
 ghost use Rattle.lr_keys.specs.KeySpace.{Answers, IsLive, IsPrepared, IsSound, entry_at, plan_at, is_plan_for, plans_after, kind_at, hash_at, counter_at, field_at, is_there, raised_in, raised_counter, entry_with_field, entry_with_number, entry_without_field, entry_with_expiry, time_left, live_entries};
 ghost use Rattle.lr_keys.specs.Table.{put};
 
@@ -160,5 +162,59 @@ impl KeySpace {
         slot.expiry = Some(expiry);
         self.least_expiry = self.least_expiry.min(expiry);
         true
+    }
+
+    // Whether memory for this member of the key is there.
+    fn is_prepared(&self, key: &Brief, kind: ValueKind, member: &Brief) -> bool
+        ensures { result ≡ is_plan_for kind member.now (plan_at self.now key.now) }
+    {
+        match self.spares.get(key) {
+            Some(spare) => spare.is_for(kind, member),
+            None => false,
+        }
+    }
+
+    // Writes a field that is there.
+    fn write_field(&mut self, key: &Brief, field: &Brief, number: i64)
+        requires { IsTrue (is_there (field_at field.now (entry_at self.old key.now))) }
+        ensures entry { entry_at self.new ≡ put key.now (Some (entry_with_field field.now number (entry_at self.old key.now))) (entry_at self.old) }
+        ensures moment { self.new.moment ≡ self.old.moment }
+        ensures prepared { plan_at self.new ≡ plan_at self.old }
+    {
+        let slot = self.slots.get_mut(key).unwrap();
+        slot.value.write_field(field, number);
+    }
+
+    // Puts a new field into a hash that is there.
+    fn add_field(
+        &mut self,
+        key: &Brief,
+        field: &Brief,
+        number: i64,
+        prepared: bool,
+    ) -> Result<(), AllocError>
+        requires there { IsSome (entry_at self.old key.now) }
+        requires few { (pairs : List (List ℕ × ℤ)) → hash_at (entry_at self.old key.now) ≡ Ok pairs → length pairs < MAX_MEMBERS }
+        requires prepared { prepared ≡ is_plan_for ValueKind.Hash field.now (plan_at self.old key.now) }
+        ensures entry { OnOk result (entry_at self.new ≡ put key.now (Some (entry_with_field field.now number (entry_at self.old key.now))) (entry_at self.old)) }
+        ensures moment { self.new.moment ≡ self.old.moment }
+        ensures prepared { OnOk result (plan_at self.new ≡ plans_after false key.now ValueKind.Hash field.now (plan_at self.old)) }
+        ensures succeeds { IsTrue prepared → IsOk result }
+        ensures err { OnErr result (self.new ≡ self.old) }
+    {
+        let slot = self.slots.get_mut(key).unwrap();
+        slot.value.add_field(field, number, prepared)?;
+        spend(&mut self.spares, key, prepared);
+        Ok(())
+    }
+}
+
+// Gives up the memory for a member of the key, if it was used.
+fn spend(spares: &mut IndexMap<Brief, Spare>, key: &Brief, spent: bool)
+    ensures spares { (q : List ℕ) → get bytes_eq spares.new q ≡ (if spent then put key.now None (get bytes_eq spares.old) else get bytes_eq spares.old) q }
+    ensures fewer { index_map_len spares.new ≤ index_map_len spares.old }
+{
+    if spent {
+        spares.swap_remove(key);
     }
 }
