@@ -1,12 +1,12 @@
-use Rattle.std.proofs.Common.{◌≡◌, ℕ, Bool, true, false, cond, List, [], ◌∷◌, Option, Some, None, IsSome, IsTrue, Ok, true≢false, ℤ, refl, map, is_some, length, if◌then◌else◌, ◌≤◌, ◌<◌, ◌+◌, arith, ap, sym, subst, ◌∙◌}
+use Rattle.std.proofs.Common.{◌≡◌, ℕ, Bool, true, false, cond, List, [], ◌∷◌, Option, Some, None, IsSome, IsTrue, Result, Ok, Err, IsOk, OnErr, is_ok, ◌&&◌, true≢false, ℤ, refl, map, is_some, length, if◌then◌else◌, ◌≤◌, ◌<◌, ◌+◌, arith, ap, sym, subst, ◌∙◌}
 use Rattle.std.proofs.Math.Nat.{le_trans}
 use Rattle.std.specs.Borrow.{MutBor}
 use Rattle.std.specs.Option.{ForSome, option_map, option_copied_mut}
 use Rattle.std.specs.Str.{bytes_eq}
-use Rattle.std.specs.Map.{lookup}
+use Rattle.std.specs.Map.{lookup, set_value}
 use Rattle.indexmap.specs.IndexMap.{IndexMap, get, spare, index_map_len, WritesThrough}
-use Rattle.lr_keys.specs.KeySpace.{Content, Fields, Number, Keys, Entry, Plan, content_with_field, is_plan_for, is_there, field_at, field_of, hash_in, IsSound, IsLive, entry_at, plan_at}
-use Rattle.lr_keys.specs.Kept.{shown, shown_value, plan_of, HasRoom, IsSpareFor, shown_keys, IsReady, IsRoomFor, IsSoundSlot, IsKept}
+use Rattle.lr_keys.specs.KeySpace.{Content, Fields, Number, Keys, Entry, Plan, content_with_field, is_plan_for, is_same_kind, is_there, field_at, field_of, hash_in, IsSound, IsLive, entry_at, plan_at}
+use Rattle.lr_keys.specs.Kept.{shown, shown_value, shown_entries, shown_plans, plan_of, HasRoom, IsSpareFor, shown_keys, IsReady, IsRoomFor, IsSoundSlot, IsKept}
 use Rattle.lr_keys.specs.declared.TheConstants.{MAX_MOMENT, MAX_LEASE, MAX_MEMBERS}
 use Rattle.lr_keys.specs.declared.value_kind.ValueKind.{ValueKind}
 use Rattle.lr_keys.specs.declared.value_kind.ValueKind.TheVariants.{Hash as HashKind, List as ListKind, Zset, Counter as CounterKind}
@@ -215,3 +215,76 @@ few_there moment u field number live there before e =
 pub few_more : (u : Slot) (field : List ℕ) (number : ℤ) → ((pairs : List (List ℕ × ℤ)) → hash_in (shown_value u.value) ≡ Ok pairs → length pairs < MAX_MEMBERS)
     → (before : List (List ℕ × ℤ)) → shown_value u.value ≡ Fields before → length (with_field field number before) ≤ MAX_MEMBERS
 few_more u field number few before e = omega (arith, length-with_field_le field number before, few before (ap hash_in e))
+
+-- what is prepared, once the memory for a member is spent or not
+pub plan_at-spent : (s t : Inside) (old : Keys) (key : List ℕ) (spent : Bool) → shown_keys s ≡ old
+    → ((q : List ℕ) → get bytes_eq t.spares q ≡ (if spent then put key None (get bytes_eq s.spares) else get bytes_eq s.spares) q)
+    → plan_at (shown_keys t) ≡ (if spent then put key None (plan_at old) else plan_at old)
+plan_at-spent s t old key true view spends = plan_at-set s t old key None view spends
+plan_at-spent s t old key false view spends = λ i q. (plan_at-shown t q ∙ ap (option_map plan_of) (spends q) ∙ sym (plan_at-shown s q) ∙ ap (λ k. plan_at k q) view) i
+
+-- a slot that is shown as before is as sound
+pub IsSoundSlot-same : (moment least : ℕ) (u : Slot) (x : Stored) → shown_value x ≡ shown_value u.value → IsSoundSlot moment least u → IsSoundSlot moment least (record u { value = x })
+IsSoundSlot-same moment least u x same sound = record {
+  live = subst (λ (v : Content). IsLive moment (record { value = v; expiry = u.expiry })) (sym same) sound.live;
+  bound = sound.bound;
+}
+
+-- a slot that is shown as before leaves what is shown
+pub shown_entries-set_value : (test : List ℕ → Bool) (es : List (List ℕ × Slot)) (u w : Slot) → lookup test es ≡ Some u → shown w ≡ shown u → shown_entries (set_value test es w) ≡ shown_entries es
+shown_entries-set_value test [] u w found same = refl
+shown_entries-set_value test (e ∷ es) u w found same = by (test e.0) found (shown_entries-set_value test es u w)
+  where
+    by : (b : Bool) → cond b (Some e.1) (lookup test es) ≡ Some u → (lookup test es ≡ Some u → shown w ≡ shown u → shown_entries (set_value test es w) ≡ shown_entries es)
+        → shown_entries (cond b ((e.0, w) ∷ es) (e ∷ set_value test es w)) ≡ shown_entries (e ∷ es)
+    by true here rest = let one : e.1 ≡ u = cc here in ap (λ (x : Entry). (e.0, x) ∷ shown_entries es) (same ∙ ap shown (sym one))
+    by false there rest = ap (λ l. (e.0, shown e.1) ∷ l) (rest there same)
+
+pub shown_keys-same : (s t : Inside) → t.moment ≡ s.moment → t.spares ≡ s.spares → shown_entries t.slots.entries ≡ shown_entries s.slots.entries → shown_keys t ≡ shown_keys s
+shown_keys-same s t moment spares entries = λ i. record { moment = moment i; entries = entries i; plans = shown_plans (spares i).entries }
+
+-- two kinds that the test finds the same are the same
+same_kind : (a b : ValueKind) → is_same_kind a b ≡ true → a ≡ b
+same_kind HashKind HashKind e = refl
+same_kind ListKind ListKind e = refl
+same_kind Zset Zset e = refl
+same_kind CounterKind CounterKind e = refl
+same_kind HashKind ListKind e = absurd (true≢false (sym e))
+same_kind HashKind Zset e = absurd (true≢false (sym e))
+same_kind HashKind CounterKind e = absurd (true≢false (sym e))
+same_kind ListKind HashKind e = absurd (true≢false (sym e))
+same_kind ListKind Zset e = absurd (true≢false (sym e))
+same_kind ListKind CounterKind e = absurd (true≢false (sym e))
+same_kind Zset HashKind e = absurd (true≢false (sym e))
+same_kind Zset ListKind e = absurd (true≢false (sym e))
+same_kind Zset CounterKind e = absurd (true≢false (sym e))
+same_kind CounterKind HashKind e = absurd (true≢false (sym e))
+same_kind CounterKind ListKind e = absurd (true≢false (sym e))
+same_kind CounterKind Zset e = absurd (true≢false (sym e))
+
+-- memory that was taken for a kind and a member is there
+pub planned : (kind : ValueKind) (member : List ℕ) (o : Option Spare) → is_plan_for kind member (option_map plan_of o) ≡ true → (p : Spare) × (o ≡ Some p) × (kind ≡ p.kind)
+planned kind member None e = absurd (true≢false (sym e))
+planned kind member (Some p) e = (p, refl, same_kind kind p.kind (left (is_same_kind kind p.kind) e))
+  where
+    left : (b : Bool) → (b && bytes_eq member p.member) ≡ true → b ≡ true
+    left true _ = refl
+    left false h = h
+
+-- so a hash that is there has room for a field
+pub HasRoom-planned : (s : Inside) (old : Keys) (key member : List ℕ) (u : Slot) → IsKept s → shown_keys s ≡ old → Some u ≡ get bytes_eq s.slots key → is_plan_for HashKind member (plan_at old key) ≡ true → HasRoom u.value
+HasRoom-planned s old key member u kept view found for =
+    let plan = planned HashKind member (get bytes_eq s.spares key) (ap (is_plan_for HashKind member) (sym (plan_at-read s old key _ view refl)) ∙ for) in
+    let room : IsRoomFor (get bytes_eq s.slots key) plan.0.kind = (kept.ready key plan.0 plan.1).room in
+    let at_kind : IsRoomFor (get bytes_eq s.slots key) HashKind = subst (IsRoomFor (get bytes_eq s.slots key)) (sym plan.2) room in
+    subst (λ (o : Option Slot). IsRoomFor o HashKind) (sym found) at_kind
+
+-- a fact beside a `Result`
+pub OnErr-always : {T E P : Type 0} (r : Result T E) → P → OnErr r P
+OnErr-always (Ok x) p = tt
+OnErr-always (Err e) p = p
+
+-- what succeeds with room had none, where it failed
+pub false_from_err : {T E : Type 0} (b : Bool) (r : Result T E) (e : E) → (IsTrue b → IsOk r) → r ≡ Err e → b ≡ false
+false_from_err true r e succeeds is = absurd (true≢false (sym (succeeds refl) ∙ ap is_ok is))
+false_from_err false r e succeeds is = refl

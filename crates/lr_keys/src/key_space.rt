@@ -8,7 +8,7 @@ ghost use Rattle.lr_keys.specs.Table.{put};
 use super::fault::KeyFault;
 use super::slot::{Slot, Spare};
 use super::value_kind::ValueKind;
-use super::{MAX_LEASE, PREPARED_KEYS};
+use super::{MAX_LEASE, MAX_MEMBERS, PREPARED_KEYS};
 use indexmap::IndexMap;
 use lr_text::Brief;
 use std::alloc::{AllocError, Global};
