@@ -64,3 +64,7 @@ pub record IsKept (s : Inside) : Type 0 where
   pub slots : (key : List ℕ) → ForSome (get bytes_eq s.slots key) (IsSoundSlot s.moment s.least_expiry)
   pub room : index_map_len s.spares ≤ spare s.slots
   pub ready : (key : List ℕ) → ForSome (get bytes_eq s.spares key) (IsReady (get bytes_eq s.slots key))
+
+-- a slot of a new key
+abbrev pub new_slot : Stored → Slot
+new_slot value = record { value = value; expiry = None }

@@ -1,12 +1,14 @@
-ghost use Rattle.std.specs.Prelude.{◌≡◌, ℕ, ℤ, List, ◌+◌, ◌<◌, ◌≤◌, length, None, IsSome, IsTrue, IsOk, IfOk, OnOk, OnErr, is_some, false, option_map, if◌then◌else◌};
+ghost use Rattle.std.specs.Prelude.{◌≡◌, ℕ, ℤ, List, [], ◌+◌, ◌<◌, ◌≤◌, length, None, IsSome, IsTrue, IsOk, IfOk, OnOk, OnErr, is_some, false, option_map, if◌then◌else◌};
 ghost use Rattle.std.specs.Option.{option_copied, ForSome};
 ghost use Rattle.std.specs.Str.{bytes_eq};
-ghost use Rattle.indexmap.specs.IndexMap.{get, index_map_len};
+ghost use Rattle.indexmap.specs.IndexMap.{get, index_map_len, spare};
 ghost use Rattle.lr_keys.specs.KeySpace.{Answers, IsLive, IsPrepared, IsSound, entry_at, plan_at, is_plan_for, plans_after, kind_at, hash_at, counter_at, field_at, is_there, raised_in, raised_counter, entry_with_field, entry_with_number, entry_without_field, entry_with_expiry, time_left, live_entries};
 ghost use Rattle.lr_keys.specs.Table.{put};
 
 use super::fault::KeyFault;
-use super::slot::{Slot, Spare};
+use super::field_map::FieldMap;
+use super::slot::{Slot, Spare, Stored};
+use super::tables::{insert_slot, remove_if, take_spare};
 use super::value_kind::ValueKind;
 use super::{MAX_LEASE, MAX_MEMBERS, PREPARED_KEYS};
 use indexmap::IndexMap;
@@ -42,7 +44,7 @@ impl Model for KeySpace {
 }
 
 impl KeySpace {
-    ghost use Rattle.lr_keys.specs.Kept.{shown};
+    ghost use Rattle.lr_keys.specs.Kept.{HasRoom, new_slot, shown};
 
     /// No keys, at moment 0.
     pub fn new(alloc: Global) -> Result<Self, AllocError>
@@ -204,17 +206,90 @@ impl KeySpace {
     {
         let slot = self.slots.get_mut(key).unwrap();
         slot.value.add_field(field, number, prepared)?;
-        spend(&mut self.spares, key, prepared);
+        remove_if(&mut self.spares, key, prepared);
         Ok(())
     }
-}
 
-// Gives up the memory for a member of the key, if it was used.
-fn spend(spares: &mut IndexMap<Brief, Spare>, key: &Brief, spent: bool)
-    ensures spares { (q : List ℕ) → get bytes_eq spares.new q ≡ (if spent then put key.now None (get bytes_eq spares.old) else get bytes_eq spares.old) q }
-    ensures fewer { index_map_len spares.new ≤ index_map_len spares.old }
-{
-    if spent {
-        spares.swap_remove(key);
+    // Makes a key that is absent.
+    fn make_key(&mut self, key: &Brief, value: Stored) -> Result<(), AllocError>
+        requires absent { entry_at self.old key.now ≡ None }
+        requires live { IsLive self.old.moment (shown (new_slot value)) }
+        requires room { HasRoom value }
+        ensures entry { OnOk result (entry_at self.new ≡ put key.now (Some (shown (new_slot value))) (entry_at self.old)) }
+        ensures moment { self.new.moment ≡ self.old.moment }
+        ensures prepared { plan_at self.new ≡ plan_at self.old }
+        ensures err { OnErr result (self.new ≡ self.old) }
+    {
+        self.slots.reserve(self.spares.len() + 1)?;
+        insert_slot(&mut self.slots, key, value);
+        Ok(())
+    }
+
+    // Makes a hash with one field.
+    fn make_hash(
+        &mut self,
+        alloc: Global,
+        key: &Brief,
+        field: &Brief,
+        number: i64,
+    ) -> Result<(), AllocError>
+        requires absent { entry_at self.old key.now ≡ None }
+        ensures entry { OnOk result (entry_at self.new ≡ put key.now (Some (entry_with_field field.now number None)) (entry_at self.old)) }
+        ensures moment { self.new.moment ≡ self.old.moment }
+        ensures prepared { plan_at self.new ≡ plan_at self.old }
+        ensures err { OnErr result (self.new ≡ self.old) }
+    {
+        let mut fields = FieldMap::with_room(alloc, 2)?;
+        fields.push(field, number);
+        self.make_key(key, Stored::Hash(fields))
+    }
+
+    // Makes a hash with one field, of the memory that was taken for that.
+    fn use_hash(&mut self, key: &Brief, field: &Brief, number: i64)
+        requires absent { entry_at self.old key.now ≡ None }
+        requires prepared { IsTrue (is_plan_for ValueKind.Hash field.now (plan_at self.old key.now)) }
+        ensures entry { entry_at self.new ≡ put key.now (Some (entry_with_field field.now number None)) (entry_at self.old) }
+        ensures moment { self.new.moment ≡ self.old.moment }
+        ensures prepared { plan_at self.new ≡ put key.now None (plan_at self.old) }
+    {
+        let Spare { hash, .. } = take_spare(&mut self.spares, key);
+        let mut fields = hash;
+        fields.push(field, number);
+        insert_slot(&mut self.slots, key, Stored::Hash(fields));
+    }
+
+    // Makes a counter, of the memory that was taken for that.
+    fn use_counter(&mut self, key: &Brief, number: i64)
+        requires absent { entry_at self.old key.now ≡ None }
+        requires prepared { IsTrue (is_plan_for ValueKind.Counter [] (plan_at self.old key.now)) }
+        ensures entry { entry_at self.new ≡ put key.now (Some (entry_with_number number None)) (entry_at self.old) }
+        ensures moment { self.new.moment ≡ self.old.moment }
+        ensures prepared { plan_at self.new ≡ put key.now None (plan_at self.old) }
+    {
+        let _spare = take_spare(&mut self.spares, key);
+        insert_slot(&mut self.slots, key, Stored::Counter(number));
+    }
+
+    // Writes a counter that is there.
+    fn write_counter(&mut self, key: &Brief, number: i64)
+        requires { IsTrue (is_there (counter_at (entry_at self.old key.now))) }
+        ensures entry { entry_at self.new ≡ put key.now (Some (entry_with_number number (entry_at self.old key.now))) (entry_at self.old) }
+        ensures moment { self.new.moment ≡ self.old.moment }
+        ensures prepared { plan_at self.new ≡ plan_at self.old }
+    {
+        let slot = self.slots.get_mut(key).unwrap();
+        slot.value = Stored::Counter(number);
+    }
+
+    // Removes a field that is there, and with the last one the key.
+    fn remove_field(&mut self, key: &Brief, field: &Brief)
+        requires { IsTrue (is_there (field_at field.now (entry_at self.old key.now))) }
+        ensures entry { entry_at self.new ≡ put key.now (entry_without_field field.now (entry_at self.old key.now)) (entry_at self.old) }
+        ensures moment { self.new.moment ≡ self.old.moment }
+        ensures prepared { plan_at self.new ≡ plan_at self.old }
+    {
+        let slot = self.slots.get_mut(key).unwrap();
+        let emptied = slot.value.remove_field(field);
+        remove_if(&mut self.slots, key, emptied);
     }
 }

@@ -5,6 +5,7 @@ mod fault;
 mod field_map;
 mod key_space;
 mod slot;
+mod tables;
 mod value_kind;
 
 pub use fault::KeyFault;

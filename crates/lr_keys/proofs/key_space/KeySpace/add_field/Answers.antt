@@ -53,23 +53,23 @@ returns-in_err-add_field-clause-err c =
     OnErr-always c.from_residual.result (shown_keys-same c.self.inside (kept c) refl refl entries ∙ c.self.view_is)
 
 -- the slot and the fields after the call
-abbrev slot_after : goal.After-spend → Slot
+abbrev slot_after : goal.After-remove_if → Slot
 slot_after c = record c.unwrap-slot.result.now { value = c.add_field.new.self }
 
-abbrev after : goal.After-spend → Inside
-after c = record c.self.inside { slots = c.get_mut.follows.lender (slot_after c); spares = c.spend.new.spares }
+abbrev after : goal.After-remove_if → Inside
+after c = record c.self.inside { slots = c.get_mut.follows.lender (slot_after c); spares = c.remove_if.new.table }
 
-found : (c : goal.After-spend) → Some c.unwrap-slot.result.now ≡ get bytes_eq c.self.inside.slots c.args.key.now
+found : (c : goal.After-remove_if) → Some c.unwrap-slot.result.now ≡ get bytes_eq c.self.inside.slots c.args.key.now
 found c = sym (ap option_copied_mut c.unwrap-slot.ensures) ∙ c.get_mut.ensures.value
 
-sets : (c : goal.After-spend) (q : List ℕ) → get bytes_eq (after c).slots q ≡ put c.args.key.now (Some (slot_after c)) (get bytes_eq c.self.inside.slots) q
+sets : (c : goal.After-remove_if) (q : List ℕ) → get bytes_eq (after c).slots q ≡ put c.args.key.now (Some (slot_after c)) (get bytes_eq c.self.inside.slots) q
 sets c = sets_written c.self.inside.slots _ c.args.key.now c.unwrap-slot.result.now (slot_after c) (found c) (c.get_mut.follows.holds (slot_after c))
 
-wrote : (c : goal.After-spend) → shown_value c.add_field.new.self ≡ content_with_field c.args.field.now c.args.number (shown_value c.unwrap-slot.result.now.value)
+wrote : (c : goal.After-remove_if) → shown_value c.add_field.new.self ≡ content_with_field c.args.field.now c.args.number (shown_value c.unwrap-slot.result.now.value)
 wrote c = c.in_ok-add_field.ensures.ok ∙ ap (λ z. content_with_field c.args.field.now z (shown_value c.unwrap-slot.result.now.value)) (to_z-of_z w64 c.args.number c.ranges.number)
 
 -- the hash has fewer fields than a key may have
-few : (c : goal.After-spend) (pairs : List (List ℕ × ℤ)) → hash_in (shown_value c.unwrap-slot.result.now.value) ≡ Ok pairs → length pairs < MAX_MEMBERS
+few : (c : goal.After-remove_if) (pairs : List (List ℕ × ℤ)) → hash_in (shown_value c.unwrap-slot.result.now.value) ≡ Ok pairs → length pairs < MAX_MEMBERS
 few c pairs e = c.requires.few pairs (ap hash_at (entry_at-read c.self.inside c.args.self.now c.args.key.now _ c.self.view_is (found c)) ∙ e)
 
 pub invariant_of-self-2 : goal.invariant_of-self-2
@@ -78,8 +78,8 @@ invariant_of-self-2 c =
     let u = c.unwrap-slot.result.now in
     let x = c.add_field.new.self in
     let sound = c.self.invariant.slots c.args.key.now u (sym (found c)) in
-    IsKept-grown inside (after c) c.args.key.now (slot_after c) c.args.prepared c.self.invariant refl refl (sets c) c.spend.ensures.spares
-    (omega (arith, c.self.invariant.room, c.spend.ensures.fewer, (c.get_mut.follows.holds (slot_after c)).6))
+    IsKept-grown inside (after c) c.args.key.now (slot_after c) c.args.prepared c.self.invariant refl refl (sets c) c.remove_if.ensures.table
+    (omega (arith, c.self.invariant.room, c.remove_if.ensures.fewer, (c.get_mut.follows.holds (slot_after c)).6))
     (IsSoundSlot-with_field inside.moment inside.least_expiry u x c.args.field.now c.args.number sound (wrote c) (few_more u c.args.field.now c.args.number (few c)))
     (λ unprepared. IsRoomFor-some _ u (slot_after c) (found c) (c.add_field.ensures.room unprepared))
 
@@ -92,5 +92,5 @@ returns-clause-entry c =
 pub returns-clause-prepared : goal.returns-clause-prepared
 returns-clause-prepared c =
     let old = c.args.self.now in
-    plan_at-spent c.self.inside (after c) old c.args.key.now c.args.prepared c.self.view_is c.spend.ensures.spares
+    plan_at-spent c.self.inside (after c) old c.args.key.now c.args.prepared c.self.view_is c.remove_if.ensures.table
     ∙ ap (λ (b : Bool). if b then put c.args.key.now None (plan_at old) else plan_at old) c.requires.prepared

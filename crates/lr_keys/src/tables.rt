@@ -1,0 +1,44 @@
+//! Tables by key: what the key space does to its own.
+ghost use Rattle.std.specs.Prelude.{◌≡◌, ℕ, List, ◌+◌, ◌<◌, ◌≤◌, None, Some, IsSome, if◌then◌else◌};
+ghost use Rattle.std.specs.Str.{bytes_eq};
+ghost use Rattle.indexmap.specs.IndexMap.{get, index_map_len, spare};
+ghost use Rattle.lr_keys.specs.Kept.{new_slot};
+ghost use Rattle.lr_keys.specs.Table.{put};
+
+use super::slot::{Slot, Spare, Stored};
+use indexmap::IndexMap;
+use lr_text::Brief;
+
+// Takes a key out of a table, if it is to go.
+pub(crate) fn remove_if<T: Drop>(table: &mut IndexMap<Brief, T>, key: &Brief, gone: bool)
+    ensures table { (q : List ℕ) → get bytes_eq table.new q ≡ (if gone then put key.now None (get bytes_eq table.old) else get bytes_eq table.old) q }
+    ensures fewer { index_map_len table.new ≤ index_map_len table.old }
+    ensures room { spare table.old ≤ spare table.new }
+{
+    if gone {
+        table.swap_remove(key);
+    }
+}
+
+// Takes the memory out that was taken for the key.
+pub(crate) fn take_spare(spares: &mut IndexMap<Brief, Spare>, key: &Brief) -> Spare
+    requires { IsSome (get bytes_eq spares.old key.now) }
+    ensures spare { get bytes_eq spares.old key.now ≡ Some result }
+    ensures spares { (q : List ℕ) → get bytes_eq spares.new q ≡ put key.now None (get bytes_eq spares.old) q }
+    ensures fewer { index_map_len spares.new + 1 ≡ index_map_len spares.old }
+{
+    spares.swap_remove(key).unwrap()
+}
+
+// Puts a new key last, for which there is room.
+pub(crate) fn insert_slot(slots: &mut IndexMap<Brief, Slot>, key: &Brief, value: Stored)
+    requires { 0 < spare slots.old }
+    ensures slots { (q : List ℕ) → get bytes_eq slots.new q ≡ put key.now (Some (new_slot value)) (get bytes_eq slots.old) q }
+    ensures room { spare slots.old ≤ spare slots.new + 1 }
+{
+    let slot = Slot {
+        value,
+        expiry: None,
+    };
+    slots.insert(*key, slot).unwrap();
+}
