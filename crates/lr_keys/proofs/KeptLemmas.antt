@@ -5,8 +5,8 @@ use Rattle.std.specs.Option.{ForSome, option_map, option_copied_mut}
 use Rattle.std.specs.Str.{bytes_eq}
 use Rattle.std.specs.Map.{lookup, set_value}
 use Rattle.indexmap.specs.IndexMap.{IndexMap, get, spare, index_map_len, WritesThrough}
-use Rattle.lr_keys.specs.KeySpace.{Content, Fields, Number, Keys, Entry, Plan, content_with_field, is_plan_for, is_same_kind, is_there, field_at, field_of, hash_in, IsSound, IsLive, entry_at, plan_at}
-use Rattle.lr_keys.specs.Kept.{shown, shown_value, shown_entries, shown_plans, plan_of, HasRoom, IsSpareFor, shown_keys, IsReady, IsRoomFor, IsSoundSlot, IsKept}
+use Rattle.lr_keys.specs.KeySpace.{Content, Fields, Number, Keys, Entry, Plan, content_with_field, is_plan_for, is_same_kind, is_there, field_at, counter_at, field_of, hash_in, IsSound, IsLive, entry_at, plan_at}
+use Rattle.lr_keys.specs.Kept.{new_slot, shown, shown_value, shown_entries, shown_plans, plan_of, HasRoom, IsSpareFor, shown_keys, IsReady, IsRoomFor, IsSoundSlot, IsKept}
 use Rattle.lr_keys.specs.declared.TheConstants.{MAX_MOMENT, MAX_LEASE, MAX_MEMBERS}
 use Rattle.lr_keys.specs.declared.value_kind.ValueKind.{ValueKind}
 use Rattle.lr_keys.specs.declared.value_kind.ValueKind.TheVariants.{Hash as HashKind, List as ListKind, Zset, Counter as CounterKind}
@@ -288,3 +288,70 @@ OnErr-always (Err e) p = p
 pub false_from_err : {T E : Type 0} (b : Bool) (r : Result T E) (e : E) → (IsTrue b → IsOk r) → r ≡ Err e → b ≡ false
 false_from_err true r e succeeds is = absurd (true≢false (sym (succeeds refl) ∙ ap is_ok is))
 false_from_err false r e succeeds is = refl
+
+-- more room for keys leaves what is kept
+pub IsKept-roomier : (s t : Inside) → IsKept s → t.moment ≡ s.moment → t.least_expiry ≡ s.least_expiry → t.spares ≡ s.spares → t.slots.entries ≡ s.slots.entries → spare s.slots ≤ spare t.slots → IsKept t
+IsKept-roomier s t kept moment least spares entries room = record {
+  moment = subst (λ m. m ≤ MAX_MOMENT) (sym moment) kept.moment;
+  slots = λ key slot at. subst (λ (m : ℕ). IsSoundSlot m t.least_expiry slot) (sym moment) (subst (λ (m : ℕ). IsSoundSlot s.moment m slot) (sym least)
+      (kept.slots key slot (ap (lookup (bytes_eq key)) (sym entries) ∙ at)));
+  room = le_trans (subst (λ (n : ℕ). n ≤ spare s.slots) (ap (λ m. index_map_len m) (sym spares)) kept.room) room;
+  ready = λ key p at. subst (λ (o : Option Slot). IsReady o p) (ap (lookup (bytes_eq key)) (sym entries)) (kept.ready key p (ap (λ m. get bytes_eq m key) (sym spares) ∙ at));
+}
+
+-- a new slot that is live is sound
+pub IsSoundSlot-new : (moment least : ℕ) (value : Stored) → IsLive moment (shown (new_slot value)) → IsSoundSlot moment least (new_slot value)
+IsSoundSlot-new moment least value live = record { live = live; bound = λ e at. absurd (cc at) }
+
+-- a new hash with one field, and a new counter, are live
+pub IsLive-one_field : (moment : ℕ) (pairs : List (List ℕ × ℤ)) (p : List ℕ × ℤ) → pairs ≡ p ∷ [] → IsLive moment (record { value = Fields pairs; expiry = None })
+IsLive-one_field moment pairs p one = record {
+  ahead = λ e at. absurd (cc at);
+  near = λ e at. absurd (cc at);
+  some_fields = λ qs at. let same : p ∷ [] ≡ qs = sym one ∙ cc at in subst (λ (ps : List (List ℕ × ℤ)). 0 < length ps) same (omega arith);
+  few_fields = λ qs at. let same : p ∷ [] ≡ qs = sym one ∙ cc at in subst (λ (ps : List (List ℕ × ℤ)). length ps ≤ MAX_MEMBERS) same (omega arith);
+}
+
+pub IsLive-counter : (moment : ℕ) (number : ℤ) → IsLive moment (record { value = Number number; expiry = None })
+IsLive-counter moment number = record {
+  ahead = λ e at. absurd (cc at);
+  near = λ e at. absurd (cc at);
+  some_fields = λ qs at. absurd (cc at);
+  few_fields = λ qs at. absurd (cc at);
+}
+
+pub IsSoundSlot-counter : (moment least : ℕ) (u : Slot) (x : Stored) (number : ℤ) → shown_value x ≡ Number number → IsSoundSlot moment least u → IsSoundSlot moment least (record u { value = x })
+IsSoundSlot-counter moment least u x number is sound = record {
+  live = record { ahead = sound.live.ahead; near = sound.live.near; some_fields = λ qs at. absurd (cc (is, at)); few_fields = λ qs at. absurd (cc (is, at)) };
+  bound = sound.bound;
+}
+
+-- memory that was taken for a key, as the spares have it
+pub planned_spare : (s : Inside) (old : Keys) (key member : List ℕ) (kind : ValueKind) → shown_keys s ≡ old → is_plan_for kind member (plan_at old key) ≡ true → (p : Spare) × (get bytes_eq s.spares key ≡ Some p) × (kind ≡ p.kind)
+planned_spare s old key member kind view for = planned kind member (get bytes_eq s.spares key) (ap (is_plan_for kind member) (sym (plan_at-read s old key _ view refl)) ∙ for)
+
+pub IsSome-planned : (s : Inside) (old : Keys) (key member : List ℕ) (kind : ValueKind) → shown_keys s ≡ old → is_plan_for kind member (plan_at old key) ≡ true → IsSome (get bytes_eq s.spares key)
+IsSome-planned s old key member kind view for = ap is_some (planned_spare s old key member kind view for).1
+
+-- the memory for a hash: no field, and room for one
+pub IsSpare-planned : (s : Inside) (old : Keys) (key member : List ℕ) (p : Spare) → IsKept s → shown_keys s ≡ old → is_plan_for HashKind member (plan_at old key) ≡ true → get bytes_eq s.spares key ≡ Some p → (p.hash.pairs ≡ []) × (0 < p.hash.room)
+IsSpare-planned s old key member p kept view for at =
+    let plan = planned_spare s old key member HashKind view for in
+    let same : plan.0 ≡ p = cc (plan.1, at) in
+    let ready = kept.ready key p at in
+    let kind : HashKind ≡ p.kind = plan.2 ∙ ap (λ (x : Spare). x.kind) same in
+    (ready.empty, subst (λ (k : ValueKind). IsSpareFor k p.hash.room) (sym kind) ready.spare)
+
+-- a change of one slot, after which the key is gone or not
+pub sets_then_gone : (f g h : List ℕ → Option Slot) (key : List ℕ) (w : Slot) (gone : Bool) → ((q : List ℕ) → g q ≡ put key (Some w) f q) → ((q : List ℕ) → h q ≡ (if gone then put key None g else g) q) → (q : List ℕ) → h q ≡ put key (if gone then None else Some w) f q
+sets_then_gone f g h key w true sets goes q = goes q ∙ ap (λ o. cond (bytes_eq key q) None o) (sets q) ∙ by (bytes_eq key q)
+  where
+    by : (b : Bool) → cond {A = Option Slot} b None (cond b (Some w) (f q)) ≡ cond b None (f q)
+    by true = refl
+    by false = refl
+sets_then_gone f g h key w false sets goes q = goes q ∙ sets q
+
+-- a slot is there where what is shown has a counter
+pub IsSome-counter : (keys : Keys) (key : List ℕ) (o : Option Slot) → entry_at keys key ≡ option_map shown o → IsTrue (is_there (counter_at (entry_at keys key))) → IsSome o
+IsSome-counter keys key None e there = absurd (true≢false (sym there ∙ ap (λ x. is_there (counter_at x)) e))
+IsSome-counter keys key (Some slot) e there = refl

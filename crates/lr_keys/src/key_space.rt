@@ -278,7 +278,7 @@ impl KeySpace {
         ensures prepared { plan_at self.new ≡ plan_at self.old }
     {
         let slot = self.slots.get_mut(key).unwrap();
-        slot.value = Stored::Counter(number);
+        slot.value.write_counter(number);
     }
 
     // Removes a field that is there, and with the last one the key.

@@ -1,5 +1,5 @@
 ghost use Rattle.std.specs.Prelude.{◌≡◌, ℕ, ℤ, List, [], length, false, IsTrue, IsOk, IfOk, OnOk, OnErr};
-ghost use Rattle.lr_keys.specs.KeySpace.{Answers, kind_in, hash_in, field_of, is_there, counter_in, content_with_field, content_without_field, is_empty_hash, is_plan_for};
+ghost use Rattle.lr_keys.specs.KeySpace.{Answers, Number, kind_in, hash_in, field_of, is_there, counter_in, content_with_field, content_without_field, is_empty_hash, is_plan_for};
 ghost use Rattle.lr_keys.specs.Kept.{shown_value, plan_of, HasRoom, IsSpareFor};
 
 use super::fault::KeyFault;
@@ -99,6 +99,17 @@ impl Stored {
         match self {
             Stored::Hash(fields) => fields.write(field, number),
             Stored::Counter(_) => {}
+        }
+    }
+
+    /// Writes a counter.
+    pub(crate) fn write_counter(&mut self, number: i64)
+        requires { IsTrue (is_there (counter_in (shown_value self.old))) }
+        ensures value { shown_value self.new ≡ Number number }
+        ensures room { HasRoom self.new }
+    {
+        if let Stored::Counter(counter) = self {
+            *counter = number;
         }
     }
 
