@@ -1,7 +1,7 @@
 use Rattle.std.proofs.Common.{◌≡◌, ◌≤◌, ◌<◌, ◌+◌, suc, length, arith, ℕ, Bool, true, false, cond, List, [], ◌∷◌, ℤ, Option, Some, None, IsSome, refl, ap, is_some, true≢false, sym, ◌∙◌}
 use Rattle.std.specs.Str.{bytes_eq}
 use Rattle.std.specs.Map.{lookup, set_value}
-use Rattle.lr_keys.specs.FieldMap.{field_value, with_field}
+use Rattle.lr_keys.specs.FieldMap.{field_value, with_field, without_field}
 
 -- a field that is there takes the number in its place
 pub with_field-there : (field : List ℕ) (number : ℤ) (pairs : List (List ℕ × ℤ)) → IsSome (field_value field pairs) → with_field field number pairs ≡ set_value (bytes_eq field) pairs number
@@ -38,3 +38,12 @@ length-with_field_some field number (e ∷ es) = by (bytes_eq field e.0)
     by : (b : Bool) → 0 < length (cond b ((e.0, number) ∷ es) (e ∷ with_field field number es))
     by true = omega arith
     by false = omega arith
+
+-- a field less leaves no more fields
+pub length-without_field : (field : List ℕ) (pairs : List (List ℕ × ℤ)) → length (without_field field pairs) ≤ length pairs
+length-without_field field [] = omega arith
+length-without_field field (e ∷ es) = by (bytes_eq field e.0) (length-without_field field es)
+  where
+    by : (b : Bool) → length (without_field field es) ≤ length es → length (cond b es (e ∷ without_field field es)) ≤ suc (length es)
+    by true rest = omega arith
+    by false rest = omega arith

@@ -5,7 +5,7 @@ use Rattle.std.specs.Option.{ForSome, option_map, option_copied_mut}
 use Rattle.std.specs.Str.{bytes_eq}
 use Rattle.std.specs.Map.{lookup, set_value}
 use Rattle.indexmap.specs.IndexMap.{IndexMap, get, spare, index_map_len, WritesThrough}
-use Rattle.lr_keys.specs.KeySpace.{Content, Fields, Number, Keys, Entry, Plan, content_with_field, is_plan_for, is_same_kind, is_there, field_at, counter_at, field_of, hash_in, IsSound, IsLive, entry_at, plan_at}
+use Rattle.lr_keys.specs.KeySpace.{Content, Fields, Number, Keys, Entry, Plan, content_with_field, content_without_field, entry_with_value, entry_without_field, is_empty_hash, is_plan_for, is_same_kind, is_there, field_at, counter_at, field_of, hash_in, IsSound, IsLive, entry_at, plan_at}
 use Rattle.lr_keys.specs.Kept.{new_slot, shown, shown_value, shown_entries, shown_plans, plan_of, HasRoom, IsSpareFor, shown_keys, IsReady, IsRoomFor, IsSoundSlot, IsKept}
 use Rattle.lr_keys.specs.declared.TheConstants.{MAX_MOMENT, MAX_LEASE, MAX_MEMBERS}
 use Rattle.lr_keys.specs.declared.value_kind.ValueKind.{ValueKind}
@@ -16,8 +16,8 @@ use Rattle.lr_keys.specs.declared.slot.Slot.{Slot}
 use Rattle.lr_keys.specs.declared.slot.Spare.{Spare}
 use Rattle.lr_keys.specs.declared.slot.Stored.{Stored}
 use Rattle.lr_keys.specs.declared.slot.Stored.TheVariants.{Hash, Counter}
-use Rattle.lr_keys.specs.FieldMap.{field_value, with_field}
-use Rattle.lr_keys.proofs.FieldMapLemmas.{length-with_field_some, length-with_field_there, length-with_field_le}
+use Rattle.lr_keys.specs.FieldMap.{field_value, with_field, without_field}
+use Rattle.lr_keys.proofs.FieldMapLemmas.{length-without_field, length-with_field_some, length-with_field_there, length-with_field_le}
 use Rattle.lr_keys.specs.declared.key_space.KeySpace.TheInside.{Inside}
 
 -- a look-up among values that are shown by f
@@ -355,3 +355,40 @@ sets_then_gone f g h key w false sets goes q = goes q ∙ sets q
 pub IsSome-counter : (keys : Keys) (key : List ℕ) (o : Option Slot) → entry_at keys key ≡ option_map shown o → IsTrue (is_there (counter_at (entry_at keys key))) → IsSome o
 IsSome-counter keys key None e there = absurd (true≢false (sym there ∙ ap (λ x. is_there (counter_at x)) e))
 IsSome-counter keys key (Some slot) e there = refl
+
+-- a value with a field less that isn't empty is one that a key may hold
+some_without_field : (value : Content) (pairs : List (List ℕ × ℤ)) → is_empty_hash value ≡ false → value ≡ Fields pairs → 0 < length pairs
+some_without_field value [] some e = absurd (true≢false (sym (ap is_empty_hash e) ∙ some))
+some_without_field value (p ∷ ps) some e = omega arith
+
+few_without_field : (field : List ℕ) (value : Content) (pairs : List (List ℕ × ℤ)) → ((before : List (List ℕ × ℤ)) → value ≡ Fields before → length before ≤ MAX_MEMBERS) → content_without_field field value ≡ Fields pairs → length pairs ≤ MAX_MEMBERS
+few_without_field field (Fields before) pairs few e =
+    let same : without_field field before ≡ pairs = cc e in
+    subst (λ (ps : List (List ℕ × ℤ)). length ps ≤ MAX_MEMBERS) same (le_trans (length-without_field field before) (few before refl))
+few_without_field field (Number n) pairs few e = absurd (cc e)
+
+pub IsSoundSlot-without_field : (moment least : ℕ) (u : Slot) (x : Stored) (field : List ℕ) (emptied : Bool) → IsSoundSlot moment least u → emptied ≡ is_empty_hash (shown_value x) → shown_value x ≡ content_without_field field (shown_value u.value)
+    → ForSome (if emptied then None else Some (record u { value = x })) (IsSoundSlot moment least)
+IsSoundSlot-without_field moment least u x field true sound empty same = λ w at. absurd (cc at)
+IsSoundSlot-without_field moment least u x field false sound empty same = ForSome-some (IsSoundSlot moment least) (record u { value = x }) (record {
+  live = record {
+    ahead = sound.live.ahead;
+    near = sound.live.near;
+    some_fields = λ pairs e. some_without_field (shown_value x) pairs (sym empty) e;
+    few_fields = λ pairs e. few_without_field field (shown_value u.value) pairs sound.live.few_fields (sym same ∙ e);
+  };
+  bound = sound.bound;
+})
+
+pub IsRoomFor-without_field : (o : Option Slot) (u w : Slot) (emptied : Bool) → Some u ≡ o → (HasRoom u.value → HasRoom w.value) → (kind : ValueKind) → IsRoomFor o kind → IsRoomFor (if emptied then None else Some w) kind
+IsRoomFor-without_field o u w true found keeps kind room = tt
+IsRoomFor-without_field o u w false found keeps kind room = IsRoomFor-some o u w found keeps kind room
+
+pub shown_without_field : (u : Slot) (x : Stored) (field : List ℕ) (emptied : Bool) → emptied ≡ is_empty_hash (shown_value x) → shown_value x ≡ content_without_field field (shown_value u.value)
+    → option_map shown (if emptied then None else Some (record u { value = x })) ≡ entry_without_field field (Some (shown u))
+shown_without_field u x field emptied empty same =
+    by emptied ∙ ap (λ (b : Bool). if b then None else Some (shown (record u { value = x }))) empty ∙ ap (λ v. entry_with_value v u.expiry) same
+  where
+    by : (b : Bool) → option_map shown (if b then None else Some (record u { value = x })) ≡ (if b then None else Some (shown (record u { value = x })))
+    by true = refl
+    by false = refl

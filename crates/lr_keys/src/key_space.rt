@@ -8,7 +8,7 @@ ghost use Rattle.lr_keys.specs.Table.{put};
 use super::fault::KeyFault;
 use super::field_map::FieldMap;
 use super::slot::{Slot, Spare, Stored};
-use super::tables::{insert_slot, remove_if, take_spare};
+use super::tables::{drop_spare, insert_slot, remove_if, take_spare};
 use super::value_kind::ValueKind;
 use super::{MAX_LEASE, MAX_MEMBERS, PREPARED_KEYS};
 use indexmap::IndexMap;
@@ -266,7 +266,7 @@ impl KeySpace {
         ensures moment { self.new.moment ≡ self.old.moment }
         ensures prepared { plan_at self.new ≡ put key.now None (plan_at self.old) }
     {
-        let _spare = take_spare(&mut self.spares, key);
+        drop_spare(&mut self.spares, key);
         insert_slot(&mut self.slots, key, Stored::Counter(number));
     }
 

@@ -30,6 +30,15 @@ pub(crate) fn take_spare(spares: &mut IndexMap<Brief, Spare>, key: &Brief) -> Sp
     spares.swap_remove(key).unwrap()
 }
 
+// Gives up the memory that was taken for the key.
+pub(crate) fn drop_spare(spares: &mut IndexMap<Brief, Spare>, key: &Brief)
+    requires { IsSome (get bytes_eq spares.old key.now) }
+    ensures spares { (q : List ℕ) → get bytes_eq spares.new q ≡ put key.now None (get bytes_eq spares.old) q }
+    ensures fewer { index_map_len spares.new + 1 ≡ index_map_len spares.old }
+{
+    let _spare = take_spare(spares, key);
+}
+
 // Puts a new key last, for which there is room.
 pub(crate) fn insert_slot(slots: &mut IndexMap<Brief, Slot>, key: &Brief, value: Stored)
     requires { 0 < spare slots.old }
