@@ -1,15 +1,18 @@
-use Rattle.std.proofs.Common.{◌≡◌, ℕ, Bool, true, false, cond, List, [], ◌∷◌, Option, Some, None, IsSome, IsTrue, Result, Ok, Err, IsOk, OnErr, is_ok, ◌&&◌, true≢false, ℤ, refl, map, is_some, length, if◌then◌else◌, ◌≤◌, ◌<◌, ◌+◌, arith, ap, sym, subst, ◌∙◌}
+use Rattle.std.proofs.Common.{◌≡◌, ℕ, Bool, true, false, cond, List, [], ◌∷◌, Option, Some, None, IsSome, IsTrue, Result, Ok, Err, IsOk, OnErr, is_ok, ◌&&◌, true≢false, ℤ, refl, map, is_some, length, nat_lt, if◌then◌else◌, ◌≤◌, ◌<◌, ◌+◌, arith, ap, sym, subst, ◌∙◌}
 use Rattle.std.proofs.Math.Nat.{le_trans}
+use Rattle.std.proofs.lemmas.Bool.{le-ltb}
 use Rattle.std.specs.Borrow.{MutBor}
 use Rattle.std.specs.Option.{ForSome, option_map, option_copied_mut}
 use Rattle.std.specs.Str.{bytes_eq}
 use Rattle.std.specs.Map.{lookup, set_value}
 use Rattle.indexmap.specs.IndexMap.{IndexMap, get, spare, index_map_len, WritesThrough}
-use Rattle.lr_keys.specs.KeySpace.{Content, Fields, Number, Keys, Entry, Plan, content_with_field, content_without_field, entry_with_value, entry_without_field, is_empty_hash, is_plan_for, is_same_kind, is_there, field_at, counter_at, field_of, hash_in, IsSound, IsLive, entry_at, plan_at}
+use Rattle.lr_keys.specs.KeySpace.{Content, Fields, Number, Keys, Entry, Plan, content_with_field, content_without_field, entry_with_value, entry_without_field, is_empty_hash, is_plan_for, is_same_kind, is_there, field_at, counter_at, field_of, hash_in, raised, raised_in, IsSound, IsLive, entry_at, plan_at}
 use Rattle.lr_keys.specs.Kept.{new_slot, shown, shown_value, shown_entries, shown_plans, plan_of, HasRoom, IsSpareFor, shown_keys, IsReady, IsRoomFor, IsSoundSlot, IsKept}
 use Rattle.lr_keys.specs.declared.TheConstants.{MAX_MOMENT, MAX_LEASE, MAX_MEMBERS}
 use Rattle.lr_keys.specs.declared.value_kind.ValueKind.{ValueKind}
 use Rattle.lr_keys.specs.declared.value_kind.ValueKind.TheVariants.{Hash as HashKind, List as ListKind, Zset, Counter as CounterKind}
+use Rattle.lr_keys.specs.declared.fault.KeyFault.{KeyFault}
+use Rattle.lr_keys.specs.declared.fault.KeyFault.TheVariants.{TooMany}
 use Rattle.lr_keys.specs.Table.{put}
 use Rattle.lr_keys.proofs.TableLaws.{at_each-put, put-same}
 use Rattle.lr_keys.specs.declared.slot.Slot.{Slot}
@@ -392,3 +395,11 @@ shown_without_field u x field emptied empty same =
     by : (b : Bool) → option_map shown (if b then None else Some (record u { value = x })) ≡ (if b then None else Some (shown (record u { value = x })))
     by true = refl
     by false = refl
+
+-- a hash with as many fields as a key may have takes no new one
+pub raised_in-full : (field : List ℕ) (by : ℤ) (h : Result (List (List ℕ × ℤ)) KeyFault) (n : ℕ) → field_of field h ≡ Ok None → ((pairs : List (List ℕ × ℤ)) → h ≡ Ok pairs → n ≡ length pairs) → MAX_MEMBERS ≤ n → raised_in field by h ≡ Err TooMany
+raised_in-full field by (Err fault) n absent counts full = absurd (cc absent)
+raised_in-full field by (Ok pairs) n absent counts full =
+    let none : field_value field pairs ≡ None = cc absent in
+    let many : nat_lt (length pairs) MAX_MEMBERS ≡ false = le-ltb (length pairs) MAX_MEMBERS (omega (arith, counts pairs refl)) in
+    ap (raised by (nat_lt (length pairs) MAX_MEMBERS)) none ∙ ap (λ (b : Bool). if b then Ok by else Err TooMany) many

@@ -68,3 +68,10 @@ pub record IsKept (s : Inside) : Type 0 where
 -- a slot of a new key
 abbrev pub new_slot : Stored → Slot
 new_slot value = record { value = value; expiry = None }
+
+-- a slot is shown as before, and room that it had it has
+abbrev pub SlotKept : Option Slot → Option Slot → Type 0
+SlotKept None None = ⊤
+SlotKept (Some u) (Some w) = (shown w ≡ shown u) × (HasRoom u.value → HasRoom w.value)
+SlotKept None (Some w) = ⊥
+SlotKept (Some u) None = ⊥

@@ -102,6 +102,11 @@ abbrev pub is_there : Result (Option ℤ) KeyFault → Bool
 is_there (Ok number) = is_some number
 is_there (Err _) = false
 
+-- whether the number was there, as a removal says (Redis command page HDEL)
+abbrev pub found_in : Result (Option ℤ) KeyFault → Result Bool KeyFault
+found_in (Ok number) = Ok (is_some number)
+found_in (Err fault) = Err fault
+
 -- what an increment makes of a number: a number that isn't there counts as 0, and a hash takes MAX_MEMBERS fields (Redis command
 -- pages HINCRBY and INCRBY; the limit is this project's own)
 abbrev pub raised : ℤ → Bool → Option ℤ → Result ℤ KeyFault

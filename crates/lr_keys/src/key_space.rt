@@ -1,14 +1,14 @@
-ghost use Rattle.std.specs.Prelude.{◌≡◌, ℕ, ℤ, List, [], ◌+◌, ◌<◌, ◌≤◌, length, None, IsSome, IsTrue, IsOk, IfOk, OnOk, OnErr, is_some, false, option_map, if◌then◌else◌};
+ghost use Rattle.std.specs.Prelude.{◌≡◌, ℕ, ℤ, List, [], ◌+◌, ◌<◌, ◌≤◌, length, None, IsSome, IsTrue, IsOk, IfOk, OnOk, OnErr, is_some, false, true, ◌≢◌, option_map, if◌then◌else◌};
 ghost use Rattle.std.specs.Option.{option_copied, ForSome};
 ghost use Rattle.std.specs.Str.{bytes_eq};
 ghost use Rattle.indexmap.specs.IndexMap.{get, index_map_len, spare};
-ghost use Rattle.lr_keys.specs.KeySpace.{Answers, IsLive, IsPrepared, IsSound, entry_at, plan_at, is_plan_for, plans_after, kind_at, hash_at, counter_at, field_at, is_there, raised_in, raised_counter, entry_with_field, entry_with_number, entry_without_field, entry_with_expiry, time_left, live_entries};
+ghost use Rattle.lr_keys.specs.KeySpace.{Answers, IsLive, IsPrepared, IsSound, entry_at, plan_at, is_plan_for, plans_after, kind_at, hash_at, counter_at, field_at, found_in, is_there, raised_in, raised_counter, entry_with_field, entry_with_number, entry_without_field, entry_with_expiry, time_left, live_entries};
 ghost use Rattle.lr_keys.specs.Table.{put};
 
 use super::fault::KeyFault;
-use super::field_map::FieldMap;
+use super::field_map::{FieldMap, checked_sum};
 use super::slot::{Slot, Spare, Stored};
-use super::tables::{drop_spare, insert_slot, remove_if, take_spare};
+use super::tables::{drop_spare, insert_slot, make_room, remove_if, take_spare};
 use super::value_kind::ValueKind;
 use super::{MAX_LEASE, MAX_MEMBERS, PREPARED_KEYS};
 use indexmap::IndexMap;
@@ -164,6 +164,148 @@ impl KeySpace {
         slot.expiry = Some(expiry);
         self.least_expiry = self.least_expiry.min(expiry);
         true
+    }
+
+    /// Adds to a field of the hash, and gives the sum. A field that isn't there counts as 0, and a key that isn't there becomes a
+    /// hash with no expiry.
+    ///
+    /// `WrongKind` where the key holds another kind, `TooMany` where the new field would be one more than a key may have, `Overflow`
+    /// where the sum leaves 64 signed bits. `NoMemory` comes only for a new field that isn't prepared.
+    pub fn hincrby(
+        &mut self,
+        alloc: Global,
+        key: &Brief,
+        field: &Brief,
+        by: i64,
+    ) -> Result<i64, KeyFault>
+        ensures answer { Answers (λ n. n) result (raised_in field.now by (hash_at (entry_at self.old key.now))) }
+        ensures there { IsTrue (is_there (field_at field.now (entry_at self.old key.now))) → result ≢ Err KeyFault.NoMemory }
+        ensures prepared { IsPrepared self.old key.now ValueKind.Hash field.now → result ≢ Err KeyFault.NoMemory }
+        ensures written { IfOk result (λ n. entry_at self.new ≡ put key.now (Some (entry_with_field field.now n (entry_at self.old key.now))) (entry_at self.old)) }
+        ensures plans { OnOk result (plan_at self.new ≡ plans_after (is_there (field_at field.now (entry_at self.old key.now))) key.now ValueKind.Hash field.now (plan_at self.old)) }
+        ensures moment { self.new.moment ≡ self.old.moment }
+        ensures refused { OnErr result (self.new ≡ self.old) }
+    {
+        if let Some(number) = self.hget(key, field)? {
+            let sum = checked_sum(number, by).ok_or(KeyFault::Overflow)?;
+            self.write_field(key, field, sum);
+            return Ok(sum);
+        }
+        if self.fields(key) >= MAX_MEMBERS {
+            return Err(KeyFault::TooMany);
+        }
+        self.new_field(alloc, key, field, by)?;
+        Ok(by)
+    }
+
+    /// Adds to the counter, and gives the sum. A key that isn't there becomes a counter with no expiry.
+    ///
+    /// `WrongKind` where the key holds another kind, `Overflow` where the sum leaves 64 signed bits. `NoMemory` comes only for a new
+    /// key that isn't prepared.
+    pub fn incrby(&mut self, key: &Brief, by: i64) -> Result<i64, KeyFault>
+        ensures answer { Answers (λ n. n) result (raised_counter by (counter_at (entry_at self.old key.now))) }
+        ensures there { IsTrue (is_there (counter_at (entry_at self.old key.now))) → result ≢ Err KeyFault.NoMemory }
+        ensures prepared { IsPrepared self.old key.now ValueKind.Counter [] → result ≢ Err KeyFault.NoMemory }
+        ensures written { IfOk result (λ n. entry_at self.new ≡ put key.now (Some (entry_with_number n (entry_at self.old key.now))) (entry_at self.old)) }
+        ensures plans { OnOk result (plan_at self.new ≡ plans_after (is_there (counter_at (entry_at self.old key.now))) key.now ValueKind.Counter [] (plan_at self.old)) }
+        ensures moment { self.new.moment ≡ self.old.moment }
+        ensures refused { OnErr result (self.new ≡ self.old) }
+    {
+        if let Some(number) = self.get(key)? {
+            let sum = checked_sum(number, by).ok_or(KeyFault::Overflow)?;
+            self.write_counter(key, sum);
+            return Ok(sum);
+        }
+        if self.is_prepared(key, ValueKind::Counter, &Brief::new()) {
+            self.use_counter(key, by);
+            return Ok(by);
+        }
+        self.make_key(key, Stored::Counter(by))?;
+        Ok(by)
+    }
+
+    /// Removes a field of the hash, and says whether it was there. A hash that becomes empty is removed.
+    pub fn hdel(&mut self, key: &Brief, field: &Brief) -> Result<bool, KeyFault>
+        ensures answer { result ≡ found_in (field_at field.now (entry_at self.old key.now)) }
+        ensures removed { result ≡ Ok true → entry_at self.new ≡ put key.now (entry_without_field field.now (entry_at self.old key.now)) (entry_at self.old) }
+        ensures moment { self.new.moment ≡ self.old.moment }
+        ensures prepared { plan_at self.new ≡ plan_at self.old }
+        ensures absent { result ≢ Ok true → self.new ≡ self.old }
+    {
+        if self.hget(key, field)?.is_none() {
+            return Ok(false);
+        }
+        self.remove_field(key, field);
+        Ok(true)
+    }
+
+    /// Takes the memory for this new member of the key, as a key of this kind, and for the key itself. For a counter the member is
+    /// empty.
+    ///
+    /// Until the next [`settle`](KeySpace::settle) the first call that makes the member finds that memory, whatever was removed
+    /// before. A key has one member prepared: a second call for the key replaces the first.
+    pub fn prepare(
+        &mut self,
+        alloc: Global,
+        key: &Brief,
+        kind: ValueKind,
+        member: &Brief,
+    ) -> Result<(), AllocError>
+        ensures prepared { OnOk result (plan_at self.new ≡ put key.now (Some (record { kind = kind; member = member.now })) (plan_at self.old)) }
+        ensures entries { entry_at self.new ≡ entry_at self.old }
+        ensures moment { self.new.moment ≡ self.old.moment }
+        ensures err { OnErr result (self.new ≡ self.old) }
+    {
+        let spare = Spare::new(alloc, kind, member)?;
+        self.slots.reserve(self.spares.len() + 1)?;
+        make_room(&mut self.slots, key, kind)?;
+        self.spares.insert(*key, spare)?;
+        Ok(())
+    }
+
+    /// Gives up what is left of the memory that was prepared.
+    pub fn settle(&mut self)
+        ensures prepared { plan_at self.new ≡ (λ _. None) }
+        ensures entries { entry_at self.new ≡ entry_at self.old }
+        ensures moment { self.new.moment ≡ self.old.moment }
+    {
+        self.spares.clear();
+    }
+
+    // How many fields the hash has.
+    fn fields(&self, key: &Brief) -> usize
+        ensures { (pairs : List (List ℕ × ℤ)) → hash_at (entry_at self.now key.now) ≡ Ok pairs → result ≡ length pairs }
+    {
+        match self.slot(key) {
+            Some(slot) => slot.value.fields(),
+            None => 0,
+        }
+    }
+
+    // Puts a new field into the hash, and makes that where the key is absent.
+    fn new_field(
+        &mut self,
+        alloc: Global,
+        key: &Brief,
+        field: &Brief,
+        number: i64,
+    ) -> Result<(), AllocError>
+        requires { (pairs : List (List ℕ × ℤ)) → hash_at (entry_at self.old key.now) ≡ Ok pairs → length pairs < MAX_MEMBERS }
+        ensures entry { OnOk result (entry_at self.new ≡ put key.now (Some (entry_with_field field.now number (entry_at self.old key.now))) (entry_at self.old)) }
+        ensures moment { self.new.moment ≡ self.old.moment }
+        ensures prepared { OnOk result (plan_at self.new ≡ plans_after false key.now ValueKind.Hash field.now (plan_at self.old)) }
+        ensures succeeds { IsTrue (is_plan_for ValueKind.Hash field.now (plan_at self.old key.now)) → IsOk result }
+        ensures err { OnErr result (self.new ≡ self.old) }
+    {
+        let prepared = self.is_prepared(key, ValueKind::Hash, field);
+        if self.exists(key) {
+            return self.add_field(key, field, number, prepared);
+        }
+        if prepared {
+            self.use_hash(key, field, number);
+            return Ok(());
+        }
+        self.make_hash(alloc, key, field, number)
     }
 
     // Whether memory for this member of the key is there.

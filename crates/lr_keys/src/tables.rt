@@ -1,13 +1,15 @@
 //! Tables by key: what the key space does to its own.
-ghost use Rattle.std.specs.Prelude.{◌≡◌, ℕ, List, ◌+◌, ◌<◌, ◌≤◌, None, Some, IsSome, if◌then◌else◌};
+ghost use Rattle.std.specs.Prelude.{◌≡◌, ℕ, List, ◌+◌, ◌<◌, ◌≤◌, None, Some, IsSome, OnOk, if◌then◌else◌};
 ghost use Rattle.std.specs.Str.{bytes_eq};
 ghost use Rattle.indexmap.specs.IndexMap.{get, index_map_len, spare};
-ghost use Rattle.lr_keys.specs.Kept.{new_slot};
+ghost use Rattle.lr_keys.specs.Kept.{SlotKept, IsRoomFor, new_slot, shown_entries};
 ghost use Rattle.lr_keys.specs.Table.{put};
 
 use super::slot::{Slot, Spare, Stored};
+use super::value_kind::ValueKind;
 use indexmap::IndexMap;
 use lr_text::Brief;
+use std::alloc::AllocError;
 
 // Takes a key out of a table, if it is to go.
 pub(crate) fn remove_if<T: Drop>(table: &mut IndexMap<Brief, T>, key: &Brief, gone: bool)
@@ -37,6 +39,26 @@ pub(crate) fn drop_spare(spares: &mut IndexMap<Brief, Spare>, key: &Brief)
     ensures fewer { index_map_len spares.new + 1 ≡ index_map_len spares.old }
 {
     let _spare = take_spare(spares, key);
+}
+
+// Makes room for a new member in the value at the key, if that is there and of this kind.
+pub(crate) fn make_room(
+    slots: &mut IndexMap<Brief, Slot>,
+    key: &Brief,
+    kind: ValueKind,
+) -> Result<(), AllocError>
+    ensures shown { shown_entries slots.new.entries ≡ shown_entries slots.old.entries }
+    ensures sound { (q : List ℕ) → SlotKept (get bytes_eq slots.old q) (get bytes_eq slots.new q) }
+    ensures room { OnOk result (IsRoomFor (get bytes_eq slots.new key.now) kind) }
+    ensures spare { spare slots.old ≤ spare slots.new }
+{
+    let Some(slot) = slots.get_mut(key) else {
+        return Ok(());
+    };
+    match kind {
+        ValueKind::Hash => slot.value.make_room(),
+        _ => Ok(()),
+    }
 }
 
 // Puts a new key last, for which there is room.
