@@ -7,7 +7,7 @@ use Rattle.std.specs.Str.{bytes_eq}
 use Rattle.std.specs.Map.{lookup, set_value}
 use Rattle.indexmap.specs.IndexMap.{IndexMap, get, spare, index_map_len, WritesThrough}
 use Rattle.lr_keys.specs.KeySpace.{Content, Fields, Number, Keys, Entry, Plan, content_with_field, content_without_field, entry_with_value, entry_without_field, is_empty_hash, is_plan_for, is_same_kind, is_there, field_at, counter_at, field_of, hash_in, raised, raised_in, IsSound, IsLive, entry_at, plan_at}
-use Rattle.lr_keys.specs.Kept.{new_slot, shown, shown_value, shown_entries, shown_plans, plan_of, HasRoom, IsSpareFor, shown_keys, IsReady, IsRoomFor, IsSoundSlot, IsKept}
+use Rattle.lr_keys.specs.Kept.{SlotKept, new_slot, shown, shown_value, shown_entries, shown_plans, plan_of, HasRoom, IsSpareFor, shown_keys, IsReady, IsRoomFor, IsSoundSlot, IsKept}
 use Rattle.lr_keys.specs.declared.TheConstants.{MAX_MOMENT, MAX_LEASE, MAX_MEMBERS}
 use Rattle.lr_keys.specs.declared.value_kind.ValueKind.{ValueKind}
 use Rattle.lr_keys.specs.declared.value_kind.ValueKind.TheVariants.{Hash as HashKind, List as ListKind, Zset, Counter as CounterKind}
@@ -403,3 +403,65 @@ raised_in-full field by (Ok pairs) n absent counts full =
     let none : field_value field pairs ≡ None = cc absent in
     let many : nat_lt (length pairs) MAX_MEMBERS ≡ false = le-ltb (length pairs) MAX_MEMBERS (omega (arith, counts pairs refl)) in
     ap (raised by (nat_lt (length pairs) MAX_MEMBERS)) none ∙ ap (λ (b : Bool). if b then Ok by else Err TooMany) many
+
+-- where the slots are shown as before, the entries stay
+pub entry_at-same : (s t : Inside) (keys : Keys) → shown_keys s ≡ keys → shown_entries t.slots.entries ≡ shown_entries s.slots.entries → entry_at (shown_keys t) ≡ entry_at keys
+unfolding entry_at
+entry_at-same s t keys view same = (λ i key. lookup (bytes_eq key) (same i)) ∙ ap entry_at view
+
+-- a slot is kept where nothing changed
+pub SlotKept-same : (o : Option Slot) → SlotKept o o
+SlotKept-same None = tt
+SlotKept-same (Some u) = (refl, λ room. room)
+
+-- a slot that is kept is as sound, and has what room it had
+sound_kept : (moment least : ℕ) (o p : Option Slot) → SlotKept o p → ForSome o (IsSoundSlot moment least) → ForSome p (IsSoundSlot moment least)
+sound_kept moment least o None kept sound = λ w at. absurd (cc at)
+sound_kept moment least None (Some w) kept sound = absurd kept
+sound_kept moment least (Some u) (Some w) kept sound = ForSome-some (IsSoundSlot moment least) w (
+    let before = sound u refl in
+    record {
+      live = subst (IsLive moment) (sym kept.0) before.live;
+      bound = subst (λ (x : Option ℕ). ForSome x (λ expiry. least ≤ expiry)) (sym (ap (λ (e : Entry). e.expiry) kept.0)) before.bound;
+    })
+
+room_kept : (o p : Option Slot) (kind : ValueKind) → SlotKept o p → IsRoomFor o kind → IsRoomFor p kind
+room_kept o None kind kept room = tt
+room_kept None (Some w) kind kept room = absurd kept
+room_kept (Some u) (Some w) kind kept room = IsRoomFor-some (Some u) u w refl kept.1 kind room
+
+-- what is kept stays so where each slot is, and the spares are as before
+pub IsKept-shown : (s t : Inside) → IsKept s → t.moment ≡ s.moment → t.least_expiry ≡ s.least_expiry → t.spares.entries ≡ s.spares.entries → ((q : List ℕ) → SlotKept (get bytes_eq s.slots q) (get bytes_eq t.slots q)) → spare s.slots ≤ spare t.slots → IsKept t
+IsKept-shown s t kept moment least spares slots room = record {
+  moment = subst (λ m. m ≤ MAX_MOMENT) (sym moment) kept.moment;
+  slots = λ key slot at. subst (λ (m : ℕ). IsSoundSlot m t.least_expiry slot) (sym moment) (subst (λ (m : ℕ). IsSoundSlot s.moment m slot) (sym least)
+      (sound_kept s.moment s.least_expiry (get bytes_eq s.slots key) (get bytes_eq t.slots key) (slots key) (kept.slots key) slot at));
+  room = le_trans (subst (λ (n : ℕ). n ≤ spare s.slots) (ap length (sym spares)) kept.room) room;
+  ready = λ key p at. let r = kept.ready key p (ap (lookup (bytes_eq key)) (sym spares) ∙ at) in
+      record { empty = r.empty; spare = r.spare; room = room_kept (get bytes_eq s.slots key) (get bytes_eq t.slots key) p.kind (slots key) r.room };
+}
+
+-- and where memory for a member of one key is added
+pub IsKept-prepared : (s t : Inside) (key : List ℕ) (p : Spare) → IsKept s → t.moment ≡ s.moment → t.least_expiry ≡ s.least_expiry → t.slots ≡ s.slots
+    → ((q : List ℕ) → get bytes_eq t.spares q ≡ put key (Some p) (get bytes_eq s.spares) q) → index_map_len t.spares ≤ spare t.slots → IsReady (get bytes_eq t.slots key) p → IsKept t
+IsKept-prepared s t key p kept moment least slots sets room ready = record {
+  moment = subst (λ m. m ≤ MAX_MOMENT) (sym moment) kept.moment;
+  slots = λ q slot at. subst (λ (m : ℕ). IsSoundSlot m t.least_expiry slot) (sym moment) (subst (λ (m : ℕ). IsSoundSlot s.moment m slot) (sym least)
+      (kept.slots q slot (ap (λ m. get bytes_eq m q) (sym slots) ∙ at)));
+  room = room;
+  ready = at_each-put (λ q o. ForSome o (IsReady (get bytes_eq t.slots q))) (get bytes_eq s.spares) (get bytes_eq t.spares) key (Some p) sets
+      (ForSome-some (IsReady (get bytes_eq t.slots key)) p ready)
+      (λ q x at. subst (λ (o : Option Slot). IsReady o x) (ap (λ m. get bytes_eq m q) (sym slots)) (kept.ready q x at));
+}
+
+-- room for a member of another kind than a hash is none of the value's own
+pub IsRoomFor-other : (o : Option Slot) (kind : ValueKind) → (kind ≡ HashKind → ⊥) → IsRoomFor o kind
+IsRoomFor-other None kind other = tt
+IsRoomFor-other (Some slot) HashKind other = absurd (other refl)
+IsRoomFor-other (Some slot) ListKind other = tt
+IsRoomFor-other (Some slot) Zset other = tt
+IsRoomFor-other (Some slot) CounterKind other = tt
+
+pub one_at_most : (b : Bool) → (if b then 0 else 1) ≤ 1
+one_at_most true = omega arith
+one_at_most false = omega arith

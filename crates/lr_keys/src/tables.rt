@@ -48,16 +48,26 @@ pub(crate) fn make_room(
     kind: ValueKind,
 ) -> Result<(), AllocError>
     ensures shown { shown_entries slots.new.entries ≡ shown_entries slots.old.entries }
-    ensures sound { (q : List ℕ) → SlotKept (get bytes_eq slots.old q) (get bytes_eq slots.new q) }
+    ensures kept { (q : List ℕ) → SlotKept (get bytes_eq slots.old q) (get bytes_eq slots.new q) }
     ensures room { OnOk result (IsRoomFor (get bytes_eq slots.new key.now) kind) }
     ensures spare { spare slots.old ≤ spare slots.new }
 {
-    let Some(slot) = slots.get_mut(key) else {
-        return Ok(());
-    };
     match kind {
-        ValueKind::Hash => slot.value.make_room(),
+        ValueKind::Hash => make_hash_room(slots, key),
         _ => Ok(()),
+    }
+}
+
+// Makes room for a field in the hash at the key, if there is one.
+fn make_hash_room(slots: &mut IndexMap<Brief, Slot>, key: &Brief) -> Result<(), AllocError>
+    ensures shown { shown_entries slots.new.entries ≡ shown_entries slots.old.entries }
+    ensures kept { (q : List ℕ) → SlotKept (get bytes_eq slots.old q) (get bytes_eq slots.new q) }
+    ensures room { OnOk result (IsRoomFor (get bytes_eq slots.new key.now) ValueKind.Hash) }
+    ensures spare { spare slots.old ≤ spare slots.new }
+{
+    match slots.get_mut(key) {
+        Some(slot) => slot.value.make_room(),
+        None => Ok(()),
     }
 }
 

@@ -24,9 +24,9 @@ invariant_of-self-2 c =
     let inside = c.self.inside in
     let live = subst (λ (m : ℕ). IsLive m (shown (new_slot c.args.value))) (sym (ap (λ k. k.moment) c.self.view_is)) c.requires.live in
     IsKept-grown inside (after c) c.args.key.now (new_slot c.args.value) false c.self.invariant refl refl (sets c) (λ q. refl)
-      (omega (arith, c.in_ok-reserve.ensures.ok, c.insert_slot.ensures.room))
-      (IsSoundSlot-new inside.moment inside.least_expiry c.args.value live)
-      (λ unspent kind room. IsRoomFor-any (new_slot c.args.value) c.requires.room kind)
+    (omega (arith, c.in_ok-reserve.ensures.ok, c.insert_slot.ensures.room))
+    (IsSoundSlot-new inside.moment inside.least_expiry c.args.value live)
+    (λ unspent kind room. IsRoomFor-any (new_slot c.args.value) c.requires.room kind)
 
 pub returns-clause-entry : goal.returns-clause-entry
 returns-clause-entry c = entry_at-set c.self.inside (after c) c.args.self.now c.args.key.now (Some (new_slot c.args.value)) c.self.view_is (sets c)

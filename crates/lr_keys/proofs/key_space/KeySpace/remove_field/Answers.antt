@@ -39,16 +39,16 @@ invariant_of-self c =
     let u = c.unwrap-slot.result.now in
     let removed = c.remove_field-emptied.ensures in
     IsKept-set inside (after c) c.args.key.now (left c) c.self.invariant refl (omega arith) refl (sets c)
-      (omega (arith, (c.get_mut.follows.holds (slot_without c)).6, c.remove_if.ensures.room))
-      (IsSoundSlot-without_field inside.moment inside.least_expiry u _ c.args.field.now _ (c.self.invariant.slots c.args.key.now u (sym (found c))) removed.empty removed.value)
-      (IsRoomFor-without_field _ u (slot_without c) _ (found c) removed.room)
+    (omega (arith, (c.get_mut.follows.holds (slot_without c)).6, c.remove_if.ensures.room))
+    (IsSoundSlot-without_field inside.moment inside.least_expiry u _ c.args.field.now _ (c.self.invariant.slots c.args.key.now u (sym (found c))) removed.empty removed.value)
+    (IsRoomFor-without_field _ u (slot_without c) _ (found c) removed.room)
 
 pub returns-clause-entry : goal.returns-clause-entry
 returns-clause-entry c =
     let u = c.unwrap-slot.result.now in
     let removed = c.remove_field-emptied.ensures in
     entry_at-changed c.self.inside (after c) c.args.self.now c.args.key.now (Some u) (left c) (entry_without_field c.args.field.now) c.self.view_is (found c) (sets c)
-      (shown_without_field u _ c.args.field.now _ removed.empty removed.value)
+    (shown_without_field u _ c.args.field.now _ removed.empty removed.value)
 
 pub returns-clause-prepared : goal.returns-clause-prepared
 returns-clause-prepared c = plan_at-same c.self.inside (after c) c.args.self.now c.self.view_is refl

@@ -24,9 +24,9 @@ pub invariant_of-self : goal.invariant_of-self
 invariant_of-self c =
     let inside = c.self.inside in
     IsKept-grown inside (after c) c.args.key.now (slot_after c) true c.self.invariant refl refl c.insert_slot.ensures.slots c.drop_spare.ensures.spares
-      (omega (arith, c.self.invariant.room, c.drop_spare.ensures.fewer, c.insert_slot.ensures.room))
-      (IsSoundSlot-new inside.moment inside.least_expiry (slot_after c).value (IsLive-counter inside.moment _))
-      (λ unspent kind room. absurd (cc unspent))
+    (omega (arith, c.self.invariant.room, c.drop_spare.ensures.fewer, c.insert_slot.ensures.room))
+    (IsSoundSlot-new inside.moment inside.least_expiry (slot_after c).value (IsLive-counter inside.moment _))
+    (λ unspent kind room. absurd (cc unspent))
 
 pub returns-clause-entry : goal.returns-clause-entry
 returns-clause-entry c =

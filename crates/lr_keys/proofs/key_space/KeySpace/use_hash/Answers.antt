@@ -36,9 +36,9 @@ pub invariant_of-self : goal.invariant_of-self
 invariant_of-self c =
     let inside = c.self.inside in
     IsKept-grown inside (after c) c.args.key.now (slot_after c) true c.self.invariant refl refl c.insert_slot.ensures.slots c.take_spare-hash.ensures.spares
-      (omega (arith, c.self.invariant.room, c.take_spare-hash.ensures.fewer, c.insert_slot.ensures.room))
-      (IsSoundSlot-new inside.moment inside.least_expiry (Hash c.push.new.self) (IsLive-one_field inside.moment c.push.new.self.pairs (c.args.field.now, c.args.number) (one c)))
-      (λ unspent kind room. absurd (cc unspent))
+    (omega (arith, c.self.invariant.room, c.take_spare-hash.ensures.fewer, c.insert_slot.ensures.room))
+    (IsSoundSlot-new inside.moment inside.least_expiry (Hash c.push.new.self) (IsLive-one_field inside.moment c.push.new.self.pairs (c.args.field.now, c.args.number) (one c)))
+    (λ unspent kind room. absurd (cc unspent))
 
 pub returns-clause-entry : goal.returns-clause-entry
 returns-clause-entry c =

@@ -43,16 +43,16 @@ invariant_of-self c =
     let inside = c.self.inside in
     let u = c.unwrap-slot.result.now in
     IsKept-set inside (after c) c.args.key.now (Some (slot_after c)) c.self.invariant refl (omega arith) refl (sets c)
-      (omega (arith, (c.get_mut.follows.holds (slot_after c)).6))
-      (ForSome-some (IsSoundSlot inside.moment inside.least_expiry) (slot_after c)
-        (IsSoundSlot-counter inside.moment inside.least_expiry u _ c.args.number (wrote c) (c.self.invariant.slots c.args.key.now u (sym (found c)))))
-      (IsRoomFor-some _ u (slot_after c) (found c) (λ room. c.write_counter.ensures.room))
+    (omega (arith, (c.get_mut.follows.holds (slot_after c)).6))
+    (ForSome-some (IsSoundSlot inside.moment inside.least_expiry) (slot_after c)
+    (IsSoundSlot-counter inside.moment inside.least_expiry u _ c.args.number (wrote c) (c.self.invariant.slots c.args.key.now u (sym (found c)))))
+    (IsRoomFor-some _ u (slot_after c) (found c) (λ room. c.write_counter.ensures.room))
 
 pub returns-clause-entry : goal.returns-clause-entry
 returns-clause-entry c =
     let u = c.unwrap-slot.result.now in
     entry_at-changed c.self.inside (after c) c.args.self.now c.args.key.now (Some u) (Some (slot_after c)) (λ e. Some (entry_with_number c.args.number e)) c.self.view_is (found c) (sets c)
-      (ap (λ v. Some (record { value = v; expiry = u.expiry })) (wrote c))
+    (ap (λ v. Some (record { value = v; expiry = u.expiry })) (wrote c))
 
 pub returns-clause-prepared : goal.returns-clause-prepared
 returns-clause-prepared c = plan_at-same c.self.inside (after c) c.args.self.now c.self.view_is refl
