@@ -1,5 +1,5 @@
 -- How the fields of a key space stand for the keys that a contract sees.
-use Rattle.std.specs.Prelude.{◌≡◌, ◌≤◌, ◌<◌, ℕ, List, [], Option, Some, None, ℤ, length, ⊤, map}
+use Rattle.std.specs.Prelude.{◌≡◌, ◌≤◌, ◌<◌, ℕ, List, [], Option, Some, None, ℤ, length, ⊤, map, fold, min, ◌^◌, ◌-◌, if◌then◌else◌}
 use Rattle.std.specs.Option.{ForSome}
 use Rattle.std.specs.Str.{bytes_eq}
 use Rattle.std.specs.Map.{lookup}
@@ -12,7 +12,7 @@ use Rattle.lr_keys.specs.declared.slot.Stored.TheVariants.{Hash, Counter}
 use Rattle.lr_keys.specs.declared.value_kind.ValueKind.{ValueKind}
 use Rattle.lr_keys.specs.declared.value_kind.ValueKind.TheVariants.{Hash as HashKind}
 use Rattle.lr_keys.specs.declared.key_space.KeySpace.TheInside.{Inside}
-use Rattle.lr_keys.specs.KeySpace.{Content, Fields, Number, Entry, Plan, Keys, IsLive}
+use Rattle.lr_keys.specs.KeySpace.{Content, Fields, Number, Entry, Plan, Keys, IsLive, is_ahead}
 
 abbrev pub shown_value : Stored → Content
 shown_value (Hash fields) = Fields fields.pairs
@@ -75,3 +75,17 @@ SlotKept None None = ⊤
 SlotKept (Some u) (Some w) = (shown w ≡ shown u) × (HasRoom u.value → HasRoom w.value)
 SlotKept None (Some w) = ⊥
 SlotKept (Some u) None = ⊥
+
+-- the lesser of a bound and an expiry
+abbrev pub sooner_of : ℕ → Option ℕ → ℕ
+sooner_of least (Some expiry) = min least expiry
+sooner_of least None = least
+
+-- no slot expires before this
+abbrev pub least_of : List Slot → ℕ
+least_of slots = fold (λ least slot. sooner_of least slot.expiry) (2 ^ 64 - 1) slots
+
+-- what is left of a slot at the moment
+abbrev pub live_slot : ℕ → Option Slot → Option Slot
+live_slot moment None = None
+live_slot moment (Some slot) = if is_ahead moment slot.expiry then Some slot else None

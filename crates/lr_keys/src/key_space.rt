@@ -1,4 +1,4 @@
-ghost use Rattle.std.specs.Prelude.{◌≡◌, ℕ, ℤ, List, [], ◌+◌, ◌<◌, ◌≤◌, length, None, IsSome, IsTrue, IsOk, IfOk, OnOk, OnErr, is_some, false, true, ◌≢◌, option_map, if◌then◌else◌};
+ghost use Rattle.std.specs.Prelude.{◌≡◌, ℕ, ℤ, List, [], ◌+◌, ◌<◌, ◌≤◌, length, None, IsSome, IsTrue, IsOk, IfOk, OnOk, OnErr, is_some, false, true, ◌≢◌, max, option_map, if◌then◌else◌};
 ghost use Rattle.std.specs.Option.{option_copied, ForSome};
 ghost use Rattle.std.specs.Str.{bytes_eq};
 ghost use Rattle.indexmap.specs.IndexMap.{get, index_map_len, spare};
@@ -8,9 +8,9 @@ ghost use Rattle.lr_keys.specs.Table.{put};
 use super::fault::KeyFault;
 use super::field_map::{FieldMap, checked_sum};
 use super::slot::{Slot, Spare, Stored};
-use super::tables::{drop_spare, insert_slot, make_room, remove_if, take_spare};
+use super::tables::{drop_spare, insert_slot, make_room, remove_gone, remove_if, take_spare};
 use super::value_kind::ValueKind;
-use super::{MAX_LEASE, MAX_MEMBERS, PREPARED_KEYS};
+use super::{MAX_LEASE, MAX_MEMBERS, MAX_MOMENT, PREPARED_KEYS};
 use indexmap::IndexMap;
 use lr_text::Brief;
 use std::alloc::{AllocError, Global};
@@ -74,6 +74,21 @@ impl KeySpace {
         ensures live { ForSome (option_copied result) (λ s. IsLive self.now.moment (shown s)) }
     {
         self.slots.get(key)
+    }
+
+    /// Goes on to this moment, and stays where it is earlier. Removes each key whose expiry is at most the moment.
+    pub fn advance(&mut self, moment: u64)
+        requires { moment ≤ MAX_MOMENT }
+        ensures moment { self.new.moment ≡ max self.old.moment moment }
+        ensures entries { entry_at self.new ≡ live_entries (max self.old.moment moment) (entry_at self.old) }
+        ensures prepared { plan_at self.new ≡ plan_at self.old }
+    {
+        let moment = self.moment.max(moment);
+        self.moment = moment;
+        if moment < self.least_expiry {
+            return;
+        }
+        self.least_expiry = remove_gone(&mut self.slots, moment);
     }
 
     /// Whether the key is there.

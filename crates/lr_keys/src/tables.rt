@@ -1,8 +1,10 @@
 //! Tables by key: what the key space does to its own.
 ghost use Rattle.std.specs.Prelude.{◌≡◌, ℕ, List, ◌+◌, ◌<◌, ◌≤◌, None, Some, IsSome, OnOk, if◌then◌else◌};
 ghost use Rattle.std.specs.Str.{bytes_eq};
-ghost use Rattle.indexmap.specs.IndexMap.{get, index_map_len, spare};
-ghost use Rattle.lr_keys.specs.Kept.{SlotKept, IsRoomFor, new_slot, shown_entries};
+ghost use Rattle.indexmap.specs.IndexMap.{get, index_map_len, spare, values};
+ghost use Rattle.lr_keys.specs.Kept.{SlotKept, IsRoomFor, least_of, live_slot, new_slot, shown_entries, sooner_of};
+ghost use Rattle.lr_keys.specs.KeySpace.{is_ahead};
+ghost use Rattle.std.specs.Option.{ForSome};
 ghost use Rattle.lr_keys.specs.Table.{put};
 
 use super::slot::{Slot, Spare, Stored};
@@ -82,4 +84,49 @@ pub(crate) fn insert_slot(slots: &mut IndexMap<Brief, Slot>, key: &Brief, value:
         expiry: None,
     };
     slots.insert(*key, slot).unwrap();
+}
+
+// The lesser of a bound and an expiry.
+fn sooner(least: u64, expiry: Option<u64>) -> u64
+    ensures { result ≡ sooner_of least expiry }
+{
+    match expiry {
+        Some(expiry) => least.min(expiry),
+        None => least,
+    }
+}
+
+// Whether a key with this expiry is there at the moment.
+fn is_ahead(expiry: Option<u64>, moment: u64) -> bool
+    ensures { result ≡ is_ahead moment expiry }
+{
+    match expiry {
+        Some(expiry) => moment < expiry,
+        None => true,
+    }
+}
+
+// A moment before which no key expires.
+fn least_expiry(slots: &IndexMap<Brief, Slot>) -> u64
+    ensures { result ≡ least_of (values slots.now) }
+{
+    slots
+        .values()
+        .fold(u64::MAX, |least, slot| sooner(least, slot.expiry))
+}
+
+// Removes the keys that are gone at the moment, and gives a moment before which no other expires.
+pub(crate) fn remove_gone(slots: &mut IndexMap<Brief, Slot>, moment: u64) -> u64
+    ensures slots { (q : List ℕ) → get bytes_eq slots.new q ≡ live_slot moment (get bytes_eq slots.old q) }
+    ensures bound { (q : List ℕ) → ForSome (get bytes_eq slots.new q) (λ slot. ForSome slot.expiry (λ expiry. result ≤ expiry)) }
+    ensures room { spare slots.old ≤ spare slots.new }
+{
+    // `len` is called for its clause that the keys differ, which the proof cites.
+    let _len = slots.len();
+    slots.retain(
+        |_key: &Brief, slot: &mut Slot| -> bool
+            ensures { (result ≡ is_ahead moment slot.old.expiry) × (slot.new ≡ slot.old) }
+        { is_ahead(slot.expiry, moment) },
+    );
+    least_expiry(slots)
 }
