@@ -23,3 +23,6 @@ pub const MAX_MEMBERS: usize = 65_536;
 
 /// For how many keys a key space has room to note what is prepared.
 pub const PREPARED_KEYS: usize = 4;
+
+#[cfg(test)]
+mod tests;
