@@ -3,3 +3,4 @@ pub mod Tenures
 pub mod Conflicts
 pub mod Histories
 pub mod Schedules
+pub mod Tables

@@ -23,19 +23,13 @@ use Rattle.lr_model.specs.Board.{Board, Connection, opened_by, closed, posted, t
 use Rattle.lr_model.specs.History.{State, step, after, CanCall, MayFollow, IsLegal}
 use Rattle.lr_model.specs.Within.{IsWithin, IsClient}
 use Rattle.lr_model.specs.World.{World, first_state, first_world, state_of, thread_of, call_entry, with_entry, with_waiter, next_row, next_exec, next_take, next, world_after, begin_row, ask_row, asked_of, waiting_reply, signed, acts_by, acts_of, act_of_exec, acts_made, caller_of, command_connection, answered_row}
-use Rattle.lr_model.specs.Sound.{IsSound, GoesWell}
+use Rattle.lr_model.specs.Sound.{IsInOrder, IsSound, GoesWell}
 use Rattle.lr_model.proofs.Histories.{after-push, IsLegal-push, signed-push, acts_by-append}
 use Rattle.lr_model.proofs.Conflicts.{no_conflict}
 
 -- a connection of a server that has just started
 abbrev first_connection : Bool → Connection
 first_connection b = if b then opened_by 0 else closed
-
--- the history is legal, no later than the moment, and nobody has subscribed
-pub record IsGood (entries : List Entry) (moment : ℕ) : Type 0 where
-  pub legal : IsLegal first_state entries
-  pub in_time : (after first_state entries).moment ≤ moment
-  pub quiet : (conn : ℕ) → (after first_state entries).board conn ≡ first_state.board conn
 
 -- a message leaves a connection without channels as it is
 unreached : (post : Post) (connection : Connection) → connection.channels ≡ [] → told post connection ≡ connection
@@ -64,7 +58,7 @@ can_call conn le = by_case (nat_le conn 128) (le-leb conn 128 le)
 
 module _ (entries : List Entry) (moment caller conn : ℕ) (op : Op) where
   -- one call more
-  pub call_good : conn ≤ 128 → IsGood entries moment → IsGood (entries ++ call_entry moment caller conn op ∷ []) moment
+  pub call_good : conn ≤ 128 → IsInOrder entries moment → IsInOrder (entries ++ call_entry moment caller conn op ∷ []) moment
   call_good le good =
       let state : State = after first_state entries in
       let entry : Entry = call_entry moment caller conn op in
@@ -76,11 +70,11 @@ module _ (entries : List Entry) (moment caller conn : ℕ) (op : Op) where
         quiet = λ c. ap (λ (s : State). s.board c) now ∙ posted_quiet (post_of state.objects moment op) state.board good.quiet c;
       }
 
-abbrev IsGoodWorld : World → Type 0
-IsGoodWorld world = IsGood world.entries world.moment
+abbrev InOrder : World → Type 0
+InOrder world = IsInOrder world.entries world.moment
 
 -- a row changes neither the history nor the moment
-row_good : (world : World) (id : ThreadId) (row : Option Waiter) → IsGoodWorld world → IsGoodWorld (next_row world id row)
+row_good : (world : World) (id : ThreadId) (row : Option Waiter) → InOrder world → InOrder (next_row world id row)
 row_good world id None good = good
 row_good world id (Some row) good = good
 
@@ -88,7 +82,7 @@ row_signed : (world : World) (id : ThreadId) (row : Option Waiter) → signed (n
 row_signed world id None = sym (append-nil (signed world.entries))
 row_signed world id (Some row) = sym (append-nil (signed world.entries))
 
-exec_good : (world : World) (client thread : ℕ) (asking : Option Asking) → IsClient client → IsGoodWorld world → IsGoodWorld (next_exec world (thread_of client thread) asking)
+exec_good : (world : World) (client thread : ℕ) (asking : Option Asking) → IsClient client → InOrder world → InOrder (next_exec world (thread_of client thread) asking)
 exec_good world client thread None within good = good
 exec_good world client thread (Some asking) within good =
     call_good world.entries world.moment (caller_of (thread_of client thread)) (2 * client - 1) asking.op (omega arith) good
@@ -97,7 +91,7 @@ exec_signed : (world : World) (id : ThreadId) (asking : Option Asking) → signe
 exec_signed world id None = sym (append-nil (signed world.entries))
 exec_signed world id (Some asking) = signed-push world.entries (call_entry world.moment (caller_of id) (command_connection id) asking.op)
 
-take_good : (world : World) (id : ThreadId) (reply : Option Reply) → IsGoodWorld world → IsGoodWorld (next_take world id reply)
+take_good : (world : World) (id : ThreadId) (reply : Option Reply) → InOrder world → InOrder (next_take world id reply)
 take_good world id None good = good
 take_good world id (Some reply) good = good
 
@@ -106,7 +100,7 @@ take_signed world id None = sym (append-nil (signed world.entries))
 take_signed world id (Some reply) = sym (append-nil (signed world.entries))
 
 -- each event keeps the world good
-pub next_good : (world : World) (event : Event) → IsWithin event → IsGoodWorld world → IsGoodWorld (next world event)
+pub next_good : (world : World) (event : Event) → IsWithin event → InOrder world → InOrder (next world event)
 next_good world (Begin c t mode want) within good = row_good world (thread_of c t) (begin_row mode want (world.waiters (thread_of c t))) good
 next_good world (Ask c t) within good = row_good world (thread_of c t) (ask_row (thread_of c t) world.moment (world.waiters (thread_of c t))) good
 next_good world (Exec c t) within good = exec_good world c t (asked_of (world.waiters (thread_of c t))) within.0 good
@@ -123,10 +117,10 @@ next_signed world (Take c t) = take_signed world (thread_of c t) (waiting_reply 
 next_signed world (Tick moment) = sym (append-nil (signed world.entries))
 next_signed world (Force name) = signed-push world.entries (call_entry world.moment 0 0 (LockForce name))
 
-pub first_good : IsGoodWorld first_world
+pub first_good : InOrder first_world
 first_good = record { legal = tt; in_time = omega arith; quiet = λ conn. refl }
 
-pub good_after : (events : List Event) (world : World) → AllByRecursion IsWithin events → IsGoodWorld world → IsGoodWorld (world_after world events)
+pub good_after : (events : List Event) (world : World) → AllByRecursion IsWithin events → InOrder world → InOrder (world_after world events)
 good_after [] world within good = good
 good_after (event ∷ events) world within good = good_after events (next world event) within.1 (next_good world event within.0 good)
 
@@ -136,7 +130,7 @@ signed_after (event ∷ events) world =
     signed_after events (next world event) ∙ ap (λ (l : List (ℕ × Act)). l ++ acts_made (next world event) events) (next_signed world event)
     ∙ append_assoc (signed world.entries) (acts_of world event) (acts_made (next world event) events)
 
-pub sound : (world : World) → IsGoodWorld world → IsSound world
+pub sound : (world : World) → InOrder world → IsSound world
 sound world good = record { legal = good.legal; in_time = good.in_time; exclusive = no_conflict 128 world.entries good.legal }
 
 pub goes_well : (events : List Event) → AllByRecursion IsWithin events → GoesWell events

@@ -1,3 +1,5 @@
+pub mod Values
+pub mod WaiterValue
 pub mod Moment
 pub mod Table
 pub mod Mutex
@@ -8,3 +10,5 @@ pub mod Tenure
 pub mod Within
 pub mod World
 pub mod Sound
+pub mod EventText
+pub mod Transcript

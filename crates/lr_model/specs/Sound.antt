@@ -6,6 +6,12 @@ use Rattle.lr_model.specs.History.{State, IsLegal, after}
 use Rattle.lr_model.specs.Tenure.{NoConflict}
 use Rattle.lr_model.specs.World.{World, first_state, state_of, signed, acts_by, acts_made, world_after, first_world}
 
+-- The history is legal and no later than the moment, and as long as no connection has subscribed none is sent anything.
+pub record IsInOrder (entries : List Entry) (moment : ℕ) : Type 0 where
+  pub legal : IsLegal first_state entries
+  pub in_time : (after first_state entries).moment ≤ moment
+  pub quiet : (conn : ℕ) → (after first_state entries).board conn ≡ first_state.board conn
+
 -- The history of a world is legal, time hasn't gone back behind its last entry, and no two owners hold one lock at once.
 pub record IsSound (world : World) : Type 0 where
   pub legal : IsLegal first_state world.entries

@@ -1,5 +1,6 @@
 use lr_names::Channel;
 use lr_objects::Op;
+use std::marker::Model;
 
 /// What one step of the server did.
 #[derive(Clone, Copy, PartialEq, Eq)]
@@ -29,4 +30,14 @@ pub struct Entry {
     pub conn: u32,
     /// What it did.
     pub act: Act,
+}
+
+impl Model for Entry {
+    ghost use Rattle.lr_model.specs.Values.{EntryValue};
+
+    ghost Value = { EntryValue };
+
+    ghost view = { λ v. record { moment = v.moment; caller = v.caller; conn = v.conn; act = v.act } };
+
+    ghost inverse = { λ v. record { moment = v.moment; caller = v.caller; conn = v.conn; act = v.act } };
 }

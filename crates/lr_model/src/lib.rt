@@ -6,6 +6,7 @@ mod entry;
 mod event;
 mod hold;
 mod laws;
+mod schedule_line;
 mod shown;
 mod waiter;
 
@@ -13,5 +14,6 @@ pub use entry::{Act, Entry};
 pub use event::Event;
 pub use hold::Hold;
 pub use laws::{every_schedule_goes_well, tenures_never_conflict};
+pub use schedule_line::ScheduleLine;
 pub use shown::{Found, Reached, Replied, Shown};
 pub use waiter::{Asking, Stage, ThreadId, Waiter};

@@ -1,5 +1,6 @@
 use lr_names::Channel;
 use lr_objects::Reply;
+use std::marker::Model;
 
 /// A message, and how many connections it reached.
 #[derive(Clone, Copy, PartialEq, Eq)]
@@ -17,6 +18,16 @@ pub struct Replied {
     pub reply: Reply,
     /// The message.
     pub post: Option<Reached>,
+}
+
+impl Model for Replied {
+    ghost use Rattle.lr_model.specs.Values.{RepliedValue};
+
+    ghost Value = { RepliedValue };
+
+    ghost view = { λ v. record { reply = v.reply; post = v.post } };
+
+    ghost inverse = { λ v. record { reply = v.reply; post = v.post } };
 }
 
 /// In which phase a thread was found, where an event doesn't apply.

@@ -1,4 +1,5 @@
 use lr_objects::{Mode, Op, Reply, Want};
+use std::marker::Model;
 
 /// A thread of a client.
 #[derive(Clone, Copy, Debug, PartialEq, Eq, Hash)]
@@ -16,6 +17,16 @@ pub struct Asking {
     pub op: Op,
     /// When it was sent, in milliseconds.
     pub at: u64,
+}
+
+impl Model for Asking {
+    ghost use Rattle.lr_model.specs.Values.{AskingValue};
+
+    ghost Value = { AskingValue };
+
+    ghost view = { λ v. record { op = v.op; at = v.at } };
+
+    ghost inverse = { λ v. record { op = v.op; at = v.at } };
 }
 
 /// How far a request has come.
@@ -38,4 +49,14 @@ pub struct Waiter {
     pub want: Want,
     /// How far it has come.
     pub stage: Stage,
+}
+
+impl Model for Waiter {
+    ghost use Rattle.lr_model.specs.WaiterValue.{WaiterValue};
+
+    ghost Value = { WaiterValue };
+
+    ghost view = { λ v. record { mode = v.mode; want = v.want; stage = v.stage } };
+
+    ghost inverse = { λ v. record { mode = v.mode; want = v.want; stage = v.stage } };
 }

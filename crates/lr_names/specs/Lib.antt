@@ -1,3 +1,5 @@
 pub mod Name
 pub mod Owner
+pub mod Key
 pub mod Channel
+pub mod Text

@@ -10,7 +10,7 @@ mod post;
 
 pub use channel::Channel;
 pub use kind::{Kind, Wakes};
-pub use name::Name;
-pub use owner::Owner;
-pub use part::Part;
+pub use name::{NAME_BYTES, Name, NameFault};
+pub use owner::{MOST_THREADS, OWNER_BYTES, Owner, OwnerFault};
+pub use part::{Part, key};
 pub use post::{Due, Post, Push};

@@ -1,5 +1,20 @@
+ghost use Rattle.std.specs.Prelude.{◌≡◌, ◌≢◌, ◌↔◌, ◌<◌, ◌≤◌, ℕ, List, length, All, decimal, IsTrue, IsErr, IsNone, IfOk, IfSome};
+ghost use Rattle.lr_names.specs.Owner.{ThreadOfClient, IsThread, IsId, IsOwner, id_text, owner_text};
+
+use itoa::Buffer;
+use lr_text::{Brief, read_number, split_once};
 use std::marker::Model;
+use std::{fmt, str};
 use uuid::Uuid;
+
+/// The greatest number of a thread.
+pub const MOST_THREADS: u32 = 256;
+
+/// The length of an id's text, in bytes.
+const ID_BYTES: usize = 36;
+
+/// The greatest length of an owner's text, in bytes.
+pub const OWNER_BYTES: usize = 40;
 
 /// A thread of a client. Threads are numbered from 1 to 256.
 #[derive(Clone, Copy, PartialEq, Eq, Hash)]
@@ -18,4 +33,147 @@ impl Model for Owner {
     ghost invariant = { λ o. IsThread o.thread };
 
     ghost inverse = { λ v. record { client = v.client; thread = v.thread } };
+}
+
+/// Why a text is no owner.
+#[derive(Clone, Copy, Debug, PartialEq, Eq)]
+pub enum OwnerFault {
+    /// It isn't an id in hyphenated lower-case form, a colon and a number from 1 to 256.
+    BadOwner,
+}
+
+impl Owner {
+    /// A thread of this client, from 1 to 256.
+    pub fn new(client: Uuid, thread: u32) -> Owner
+        requires { IsThread thread }
+        ensures { result ≡ record { client = client; thread = thread } }
+    {
+        Owner { client, thread }
+    }
+
+    /// Reads an owner: `BadOwner` exactly where the text is that of none.
+    pub fn parse(text: &[u8]) -> Result<Owner, OwnerFault>
+        ensures text { IfOk result (λ owner. text.now ≡ owner_text owner) }
+        ensures owner { IfOk result IsOwner }
+        ensures bad { IsErr result → (owner : ThreadOfClient) → IsOwner owner → text.now ≢ owner_text owner }
+    {
+        read_owner(text).ok_or(OwnerFault::BadOwner)
+    }
+
+    /// The id of the client.
+    pub fn client(&self) -> Uuid
+        ensures value { result ≡ self.now.client }
+        ensures id { IsId result }
+    {
+        id_fits(self.client.as_bytes());
+        self.client
+    }
+
+    /// The number of the thread.
+    pub fn thread(&self) -> u32
+        ensures value { result ≡ self.now.thread }
+        ensures range { IsThread result }
+    {
+        self.thread
+    }
+
+    /// The text of the owner: its id, a colon and its thread. No other owner has it.
+    pub fn brief(&self) -> Brief
+        ensures text { result ≡ owner_text self.now }
+        ensures short { length result ≤ OWNER_BYTES }
+        ensures owner { IsOwner self.now }
+        ensures alone { (other : ThreadOfClient) → IsOwner other → result ≡ owner_text other → self.now ≡ other }
+    {
+        id_fits(self.client.as_bytes());
+        self.written()
+    }
+
+    fn written(&self) -> Brief
+        ensures { result ≡ owner_text self.now }
+    {
+        let mut id = [0; ID_BYTES];
+        let mut digits = Buffer::new();
+        let mut text = Brief::new();
+        text.push_bytes(self.client.hyphenated().encode_lower(&mut id).as_bytes());
+        text.push_bytes(b":");
+        text.push_bytes(digits.format(self.thread).as_bytes());
+        text
+    }
+}
+
+// What the type of an id says, which no clause can say of an array.
+fn id_fits(id: &[u8; 16])
+    ensures { IsId id.now }
+{
+    bytes_fit(id.as_slice());
+}
+
+fn bytes_fit(bytes: &[u8])
+    ensures { All (λ b. b < 256) bytes.now }
+{}
+
+fn read_owner(text: &[u8]) -> Option<Owner>
+    ensures text { IfSome result (λ owner. text.now ≡ owner_text owner) }
+    ensures owner { IfSome result IsOwner }
+    ensures bad { IsNone result → (owner : ThreadOfClient) → IsOwner owner → text.now ≢ owner_text owner }
+{
+    let (id, thread) = split_once(text, b':')?;
+    Some(Owner {
+        client: read_id(id)?,
+        thread: read_thread(thread)?,
+    })
+}
+
+fn read_id(text: &[u8]) -> Option<Uuid>
+    ensures text { IfSome result (λ id. text.now ≡ id_text id) }
+    ensures id { IfSome result IsId }
+    ensures none { IsNone result → (id : List ℕ) → IsId id → text.now ≢ id_text id }
+{
+    let id = Uuid::try_parse_ascii(text).ok()?;
+    // Other forms of an id are parsed too.
+    if !is_written(&id, text) {
+        return None;
+    }
+    id_fits(id.as_bytes());
+    Some(id)
+}
+
+fn is_written(id: &Uuid, text: &[u8]) -> bool
+    ensures { IsTrue result ↔ (text.now ≡ id_text id.now) }
+{
+    let mut buffer = [0; ID_BYTES];
+    id.hyphenated().encode_lower(&mut buffer).as_bytes() == text
+}
+
+fn read_thread(text: &[u8]) -> Option<u32>
+    ensures text { IfSome result (λ thread. text.now ≡ decimal thread) }
+    ensures range { IfSome result IsThread }
+    ensures none { IsNone result → (thread : ℕ) → IsThread thread → text.now ≢ decimal thread }
+{
+    let thread = read_number(text)?;
+    if !is_thread(thread) {
+        return None;
+    }
+    Some(thread as u32)
+}
+
+fn is_thread(number: u64) -> bool
+    ensures { IsTrue result ↔ IsThread number }
+{
+    1 <= number && number <= u64::from(MOST_THREADS)
+}
+
+impl fmt::Display for Owner {
+    fn fmt<W: fmt::Write>(&self, f: &mut fmt::Formatter<W>) -> fmt::Result {
+        match str::from_utf8(self.brief().as_slice()) {
+            Ok(text) => f.write_str(text),
+            Err(_) => Err(fmt::Error),
+        }
+    }
+}
+
+impl fmt::Debug for Owner {
+    fn fmt<W: fmt::Write>(&self, f: &mut fmt::Formatter<W>) -> fmt::Result {
+        fmt::Display::fmt(self, f)
+    }
 }

@@ -11,7 +11,7 @@ pub use items::Items;
 pub use number::{read_number, write_number};
 pub use short_text::ShortText;
 pub use text::Text;
-pub use words::Words;
+pub use words::{Words, split_once};
 
 /// The greatest length of a [`Brief`], in bytes.
 pub const BRIEF_BYTES: usize = 128;

@@ -1,4 +1,4 @@
-ghost use Rattle.std.specs.Prelude.{◌≡◌, ℕ, ◌<◌, ◌≤◌, length, IsSome, IfSome, ◌↔◌, [], ◌∷◌, ◌++◌, IsTrue, List};
+ghost use Rattle.std.specs.Prelude.{◌≡◌, ℕ, ◌+◌, ◌<◌, ◌≤◌, length, IsSome, IfSome, ◌↔◌, [], ◌∷◌, ◌++◌, IsTrue, List};
 
 use std::hash::{Hash, Hasher};
 use std::marker::Model;
@@ -51,6 +51,17 @@ impl<const CAP: usize> ShortText<CAP> {
             bytes,
             len: text.len(),
         })
+    }
+
+    /// Appends these bytes.
+    pub fn push_bytes(&mut self, bytes: &[u8])
+        requires { length self.old + length bytes.now ≤ CAP }
+        ensures { self.new ≡ self.old ++ bytes.now }
+    {
+        let end = self.len + bytes.len();
+        let room = &mut self.bytes[..];
+        room[self.len..end].copy_from_slice(bytes);
+        self.len = end;
     }
 
     /// How many bytes there are.

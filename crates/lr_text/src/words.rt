@@ -1,5 +1,5 @@
-ghost use Rattle.std.specs.Prelude.{◌≡◌, ◌↔◌, ◌==◌, [], ◌∷◌, position, IsNone, IfSome, IfNone};
-ghost use Rattle.lr_text.specs.Words.{words_of};
+ghost use Rattle.std.specs.Prelude.{◌≡◌, ◌↔◌, ◌==◌, [], ◌∷◌, ◌++◌, position, IsTrue, IsNone, IfSome, IfNone};
+ghost use Rattle.lr_text.specs.Words.{words_of, lacks};
 
 use std::marker::Model;
 
@@ -42,22 +42,32 @@ impl<'a> Words<'a> {
         if self.over {
             return None;
         }
-        let rest = self.rest;
-        match first_space(rest) {
-            Some(end) => {
-                self.rest = &rest[end + 1..];
-                Some(&rest[..end])
+        match split_once(self.rest, b' ') {
+            Some((word, rest)) => {
+                self.rest = rest;
+                Some(word)
             }
             None => {
                 self.over = true;
-                Some(rest)
+                Some(self.rest)
             }
         }
     }
 }
 
-fn first_space(line: &[u8]) -> Option<usize>
-    ensures { result ≡ position (λ b. b == 32) line.now }
+/// What stands before the first such byte of a text, and what follows it: `None` where the text
+/// has no such byte.
+pub fn split_once(text: &[u8], byte: u8) -> Option<(&[u8], &[u8])>
+    ensures some { IfSome result (λ parts. text.now ≡ parts.0.now ++ byte ∷ parts.1.now) }
+    ensures first { IfSome result (λ parts. IsTrue (lacks byte parts.0.now)) }
+    ensures none { IsNone result → IsTrue (lacks byte text.now) }
 {
-    line.iter().position(|byte| *byte == b' ')
+    let at = place_of(text, byte)?;
+    Some((&text[..at], &text[at + 1..]))
+}
+
+fn place_of(text: &[u8], byte: u8) -> Option<usize>
+    ensures { result ≡ position (λ b. b == byte) text.now }
+{
+    text.iter().position(|b| *b == byte)
 }
