@@ -35,7 +35,8 @@ impl Entries {
         ensures ok { OnOk result (self.new ≡ self.old ++ entry ∷ []) }
         ensures err { OnErr result (self.new ≡ self.old) }
     {
-        self.entries.extend_from_slice(&[entry])
+        self.entries.push(entry)?;
+        Ok(())
     }
 
     /// How many entries there are.

@@ -12,7 +12,7 @@ pub struct Segment {
 }
 
 impl Model for Segment {
-    ghost use Rattle.std.specs.Prelude.{◌≤◌, List, vec_len, vec_capacity};
+    ghost use Rattle.std.specs.Prelude.{◌≡◌, List, vec_capacity};
     ghost use Rattle.lr_model.specs.declared.entry.Entry.{Entry};
     ghost use Rattle.lr_history.specs.declared.TheConstants.{SEGMENT_ENTRIES};
 
@@ -20,7 +20,7 @@ impl Model for Segment {
 
     ghost view = { λ s. s.entries.items };
 
-    ghost invariant = { λ s. (vec_len s.entries ≤ SEGMENT_ENTRIES) × (SEGMENT_ENTRIES ≤ vec_capacity s.entries) };
+    ghost invariant = { λ s. vec_capacity s.entries ≡ SEGMENT_ENTRIES };
 }
 
 impl Segment {
@@ -38,7 +38,7 @@ impl Segment {
         requires { length self.old < SEGMENT_ENTRIES }
         ensures { self.new ≡ self.old ++ entry ∷ [] }
     {
-        self.entries.extend_from_slice(&[entry]).unwrap();
+        self.entries.push_reserved(entry);
     }
 
     /// How many entries there are.
