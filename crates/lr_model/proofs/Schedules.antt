@@ -70,7 +70,7 @@ module _ (entries : List Entry) (moment caller conn : ℕ) (op : Op) where
         quiet = λ c. ap (λ (s : State). s.board c) now ∙ posted_quiet (post_of state.objects moment op) state.board good.quiet c;
       }
 
-abbrev InOrder : World → Type 0
+abbrev pub InOrder : World → Type 0
 InOrder world = IsInOrder world.entries world.moment
 
 -- a row changes neither the history nor the moment

@@ -1,6 +1,6 @@
 -- The transcript of a schedule: what is written for its bytes.
 use Rattle.std.specs.Prelude.{◌≡◌, ◌≢◌, ℕ, ◌+◌, ◌≤◌, List, [], ◌∷◌, ◌++◌, codes, decimal, Option, Some, None}
-use Rattle.lr_names.specs.Text.{channel_text}
+use Rattle.lr_names.specs.Channel.{channel_text}
 use Rattle.lr_objects.specs.Reply.{reply_text}
 use Rattle.lr_model.specs.declared.event.Event.{Event}
 use Rattle.lr_model.specs.declared.schedule_line.ScheduleLine.{ScheduleLine}

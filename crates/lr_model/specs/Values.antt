@@ -14,11 +14,6 @@ pub record EntryValue : Type 0 where
   pub conn : ℕ
   pub act : Act
 
--- a call that was sent, and when
-pub record AskingValue : Type 0 where
-  pub op : Op
-  pub at : ℕ
-
 -- a reply, and the message that the call sent
 pub record RepliedValue : Type 0 where
   pub reply : Reply

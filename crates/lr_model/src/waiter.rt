@@ -19,16 +19,6 @@ pub struct Asking {
     pub at: u64,
 }
 
-impl Model for Asking {
-    ghost use Rattle.lr_model.specs.Values.{AskingValue};
-
-    ghost Value = { AskingValue };
-
-    ghost view = { λ v. record { op = v.op; at = v.at } };
-
-    ghost inverse = { λ v. record { op = v.op; at = v.at } };
-}
-
 /// How far a request has come.
 #[derive(Clone, Copy, PartialEq, Eq)]
 pub enum Stage {

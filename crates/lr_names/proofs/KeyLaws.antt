@@ -1,5 +1,5 @@
 -- Keys are one to one with parts and names.
-use Rattle.std.proofs.Common.{◌≡◌, ℕ, List, ◌++◌, IsTrue, if◌then◌else◌, codes, refl, sym, ap, ◌∙◌}
+use Rattle.std.proofs.Common.{◌≡◌, ℕ, List, IsTrue, if◌then◌else◌, refl, sym, ap, ◌∙◌}
 use Rattle.std.specs.Str.{bytes_eq}
 use Rattle.lr_text.specs.Words.{lacks}
 use Rattle.lr_text.proofs.WordLaws.{cut-injective}

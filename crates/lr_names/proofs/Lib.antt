@@ -1,2 +1,3 @@
 pub mod OwnerLaws
 pub mod KeyLaws
+pub mod ChannelLaws

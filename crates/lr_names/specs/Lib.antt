@@ -2,4 +2,3 @@ pub mod Name
 pub mod Owner
 pub mod Key
 pub mod Channel
-pub mod Text

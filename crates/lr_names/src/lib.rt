@@ -7,8 +7,10 @@ mod name;
 mod owner;
 mod part;
 mod post;
+#[cfg(test)]
+mod tests;
 
-pub use channel::Channel;
+pub use channel::{Channel, ChannelFault, write_channel};
 pub use kind::{Kind, Wakes};
 pub use name::{NAME_BYTES, Name, NameFault};
 pub use owner::{MOST_THREADS, OWNER_BYTES, Owner, OwnerFault};

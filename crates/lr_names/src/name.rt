@@ -1,4 +1,4 @@
-ghost use Rattle.std.specs.Prelude.{◌≡◌, ◌↔◌, IsTrue, IsOk, IfOk};
+ghost use Rattle.std.specs.Prelude.{◌≡◌, ◌↔◌, IsTrue, IsNone, IsOk, IfOk, IfSome};
 ghost use Rattle.std.specs.List.{list_all};
 ghost use Rattle.lr_names.specs.Name.{is_name_byte, IsName};
 
@@ -41,10 +41,7 @@ impl Name {
         ensures named { IsOk result ↔ IsName text.now }
         ensures same { IfOk result (λ name. name ≡ text.now) }
     {
-        match ShortText::of(text) {
-            Some(text) if is_name(text.as_slice()) => Ok(Name { text }),
-            _ => Err(NameFault::BadName),
-        }
+        read_name(text).ok_or(NameFault::BadName)
     }
 
     /// The bytes of the name.
@@ -53,6 +50,16 @@ impl Name {
         ensures named { IsName self.now }
     {
         self.text.as_slice()
+    }
+}
+
+pub(crate) fn read_name(text: &[u8]) -> Option<Name>
+    ensures some { IfSome result (λ name. (name ≡ text.now) × IsName text.now) }
+    ensures none { IsNone result → ¬ (IsName text.now) }
+{
+    match ShortText::of(text) {
+        Some(text) if is_name(text.as_slice()) => Some(Name { text }),
+        _ => None,
     }
 }
 

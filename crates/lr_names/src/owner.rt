@@ -112,7 +112,7 @@ fn bytes_fit(bytes: &[u8])
     ensures { All (λ b. b < 256) bytes.now }
 {}
 
-fn read_owner(text: &[u8]) -> Option<Owner>
+pub(crate) fn read_owner(text: &[u8]) -> Option<Owner>
     ensures text { IfSome result (λ owner. text.now ≡ owner_text owner) }
     ensures owner { IfSome result IsOwner }
     ensures bad { IsNone result → (owner : ThreadOfClient) → IsOwner owner → text.now ≢ owner_text owner }

@@ -3,7 +3,7 @@ use Rattle.std.proofs.Common.{◌≡◌, ℕ, ◌+◌, ◌-◌, ◌≤◌, List,
 use Rattle.std.specs.Prelude.{slice_range, Vec}
 use Rattle.std.specs.declared.alloc.Global.{Global}
 use Rattle.std.specs.Vec.{with_items}
-use Rattle.std.proofs.lemmas.List.{with_items_is, drop-drop, drop-append-le, take-take, take-append-le}
+use Rattle.std.proofs.lemmas.List.{with_items_is, drop-drop, drop-append-le, take-take}
 use Rattle.std.proofs.lemmas.Slice.{between_is, take-put_mid, take-put_mid_below}
 use Rattle.std.proofs.Math.Seq.{take-append-add}
 use borrow.Rule.Slice.PartMut.{put_mid}

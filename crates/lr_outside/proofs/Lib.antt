@@ -1,2 +1,5 @@
+pub mod Fronts
 pub mod Kept
+pub mod Lines
+pub mod Turns
 pub mod Writes

@@ -1,5 +1,9 @@
+pub mod Adapters
+pub mod KeptTurns
+pub mod Lines
 pub mod Memory
 pub mod Plain
+pub mod Reading
 pub mod Status
 pub mod Turns
 pub mod Window

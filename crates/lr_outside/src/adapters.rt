@@ -1,4 +1,7 @@
 // std's readers and writers as a source and a sink.
+ghost use Rattle.std.specs.Prelude.{◌≡◌};
+ghost use Rattle.lr_outside.specs.Adapters.{reader_of, input_faults, writer_of, output_faults};
+
 use crate::{ReadTurn, Sink, Source, WriteTurn};
 use std::io::{Read, Write};
 
@@ -11,15 +14,18 @@ pub struct InputSource<R> {
 
 impl<R: Read> InputSource<R> {
     /// The reader, with no fault yet.
-    pub fn new(reader: R) -> Self {
+    pub fn new(reader: R) -> Self
+        ensures reader { reader_of result ≡ reader }
+        ensures faults { input_faults result ≡ 0 }
+    {
         InputSource { reader, faults: 0 }
     }
 }
 
 impl<R: Read> Source for InputSource<R> {
-    ghost left = { λ s. R.remaining s.reader };
+    ghost left = { λ s. R.remaining (reader_of s) };
 
-    ghost faults = { λ s. s.faults };
+    ghost faults = { input_faults };
 
     fn read(&mut self, buffer: &mut [u8]) -> ReadTurn {
         match self.reader.read(buffer) {
@@ -44,15 +50,18 @@ pub struct OutputSink<W> {
 
 impl<W: Write> OutputSink<W> {
     /// The writer, with no fault yet.
-    pub fn new(writer: W) -> Self {
+    pub fn new(writer: W) -> Self
+        ensures writer { writer_of result ≡ writer }
+        ensures faults { output_faults result ≡ 0 }
+    {
         OutputSink { writer, faults: 0 }
     }
 }
 
 impl<W: Write> Sink for OutputSink<W> {
-    ghost held = { λ s. W.contents s.writer };
+    ghost held = { λ s. W.contents (writer_of s) };
 
-    ghost faults = { λ s. s.faults };
+    ghost faults = { output_faults };
 
     fn write(&mut self, piece: &[u8]) -> WriteTurn {
         match self.writer.write(piece) {

@@ -2,7 +2,7 @@
 #![tactic(auto)]
 
 mod adapters;
-
+mod line_reader;
 mod memory;
 mod plain;
 mod sink;
@@ -11,7 +11,7 @@ mod status;
 mod window;
 
 pub use adapters::{InputSource, OutputSink};
-
+pub use line_reader::{Line, LineReader, LineTurn};
 pub use memory::{MemSink, MemSource};
 pub use plain::{PlainSink, PlainSource};
 pub use sink::{Sink, WriteTurn, write_whole};
@@ -20,3 +20,6 @@ pub use status::Status;
 
 /// The greatest length of a [`Line`], in bytes.
 pub const LINE_BYTES: usize = 512;
+
+#[cfg(test)]
+mod tests;

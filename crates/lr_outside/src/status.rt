@@ -9,7 +9,7 @@ pub enum Status {
     Done,
     /// The program was called with other words than it takes.
     Usage,
-    /// A read failed.
+    /// A read failed, or nothing more could be accepted.
     ReadFault,
     /// A write failed.
     WriteFault,
@@ -17,11 +17,11 @@ pub enum Status {
     BadLine(u64),
     /// Memory ran out.
     NoMemory,
-    /// More than the program's limit: how many there were.
+    /// A limit of the program was passed: the line of this number passes it, or so many passes were made.
     TooMany(u64),
-    /// So many checks of the program's own failed.
+    /// The answer to the line of this number, or of this check, is wrong.
     Wrong(u64),
-    /// The other side closed the connection.
+    /// The client or its connection is closed.
     Closed,
 }
 

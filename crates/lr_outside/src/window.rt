@@ -63,7 +63,8 @@ impl Window {
     /// Reads once, and keeps what came behind what is kept.
     pub fn fill<S: Source>(&mut self, source: &mut S) -> ReadTurn
         requires { length (kept_bytes self.old) ≤ LINE_BYTES }
-        ensures bytes { Fills (kept_bytes self.old) (kept_bytes self.new) (S.left source.old) (S.left source.new) result }
+        ensures bytes { Fills (kept_bytes self.old) (kept_bytes self.new)
+            (S.left source.old) (S.left source.new) result }
         ensures later { S.faults source.old ≤ S.faults source.new }
         ensures fault { FailedReadRose (S.faults source.old) (S.faults source.new) result }
     {

@@ -6,7 +6,7 @@ use std::alloc::{AllocError, Global};
 use std::marker::Model;
 
 /// A list of texts.
-#[derive(Drop)]
+#[derive(Clone, Debug, Drop)]
 pub struct Items {
     texts: Vec<Text>,
 }

@@ -4,6 +4,8 @@
 mod items;
 mod number;
 mod short_text;
+#[cfg(test)]
+mod tests;
 mod text;
 mod words;
 

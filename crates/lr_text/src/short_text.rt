@@ -2,6 +2,7 @@ ghost use Rattle.std.specs.Prelude.{◌≡◌, ℕ, ◌+◌, ◌<◌, ◌≤◌,
 
 use std::hash::{Hash, Hasher};
 use std::marker::Model;
+use std::{fmt, str};
 
 /// At most `CAP` bytes, kept in place: copied without memory.
 #[derive(Clone, Copy)]
@@ -119,5 +120,14 @@ impl<const CAP: usize> Hash for ShortText<CAP> {
 
     fn hash<H: Hasher>(&self, state: &mut H) {
         state.write(self.as_slice());
+    }
+}
+
+impl<const CAP: usize> fmt::Debug for ShortText<CAP> {
+    fn fmt<W: fmt::Write>(&self, f: &mut fmt::Formatter<W>) -> fmt::Result {
+        match str::from_utf8(self.as_slice()) {
+            Ok(text) => fmt::Debug::fmt(text, f),
+            Err(_) => fmt::Debug::fmt(self.as_slice(), f),
+        }
     }
 }

@@ -2,9 +2,10 @@ ghost use Rattle.std.specs.Prelude.{◌≡◌, ◌↔◌, [], ◌∷◌, ◌++�
 
 use std::alloc::{AllocError, Global};
 use std::marker::Model;
+use std::{fmt, str};
 
 /// A list of bytes.
-#[derive(Drop)]
+#[derive(Clone, Drop)]
 pub struct Text {
     bytes: Vec<u8>,
 }
@@ -107,4 +108,13 @@ impl Eq for Text {
     ghost use Rattle.std.specs.Cmp.Lexicographic.{nat_list_eq_equiv};
 
     ghost laws = { nat_list_eq_equiv };
+}
+
+impl fmt::Debug for Text {
+    fn fmt<W: fmt::Write>(&self, f: &mut fmt::Formatter<W>) -> fmt::Result {
+        match str::from_utf8(self.as_slice()) {
+            Ok(text) => fmt::Debug::fmt(text, f),
+            Err(_) => fmt::Debug::fmt(self.as_slice(), f),
+        }
+    }
 }

@@ -1,5 +1,5 @@
-ghost use Rattle.std.specs.Prelude.{◌≡◌, ◌↔◌, ◌==◌, [], ◌∷◌, ◌++◌, position, IsTrue, IsNone, IfSome, IfNone};
-ghost use Rattle.lr_text.specs.Words.{words_of, lacks};
+ghost use Rattle.std.specs.Prelude.{◌≡◌, ◌↔◌, ◌==◌, ◌<◌, ℕ, List, length, [], ◌∷◌, ◌++◌, position, IsTrue, IsNone, IfSome, IfNone};
+ghost use Rattle.lr_text.specs.Words.{lacks, words_of, joined, are_words};
 
 use std::marker::Model;
 
@@ -23,9 +23,15 @@ impl<'a> Model for Words<'a> {
 }
 
 impl<'a> Words<'a> {
-    /// All words of a line.
+    /// All words of a line, at least one. With single spaces between they are the line, and no
+    /// other words are.
     pub fn new(line: &'a [u8]) -> Words<'a>
-        ensures { result ≡ words_of line.now }
+        ensures words { result ≡ words_of line.now }
+        ensures each { IsTrue (are_words result) }
+        ensures some { 0 < length result }
+        ensures line { joined result ≡ line.now }
+        ensures alone { (word : List ℕ) (rest : List (List ℕ)) → IsTrue (are_words (word ∷ rest))
+            → line.now ≡ joined (word ∷ rest) → result ≡ word ∷ rest }
     {
         Words {
             rest: line,

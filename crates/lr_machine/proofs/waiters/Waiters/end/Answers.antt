@@ -1,0 +1,11 @@
+use Rattle.std.proofs.Common.{List, None, if◌then◌else◌, ◌∙◌, ap, rules}
+use Rattle.lr_model.specs.declared.waiter.ThreadId.{ThreadId}
+use Rattle.lr_model.specs.declared.waiter.Waiter.{Waiter}
+use Rattle.lr_model.proofs.Tables.{one_table}
+use Rattle.lr_model.specs.World.{same_thread}
+use Rattle.lr_machine.specs.Waiters.{request_of}
+use Rattle.lr_machine.proofs.waiters.Waiters.end.Goals as goal
+
+pub returns : goal.returns
+returns c = one_table _ _ (λ q.
+    c.swap_remove.ensures.updates.0 q ∙ ap (λ (es : List (ThreadId × Waiter)). if same_thread c.args.id q then None else request_of es q) c.self.view_is)

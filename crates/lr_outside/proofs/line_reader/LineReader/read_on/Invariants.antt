@@ -1,0 +1,15 @@
+use Rattle.std.proofs.Common.{◌≡◌, false, ◌-◌, ◌≤◌, length}
+use Rattle.std.specs.Io.KnownBytes.{Keeps}
+use Rattle.lr_outside.specs.Lines.{ahead, IsUndecided}
+use Rattle.lr_outside.proofs.line_reader.LineReader.read_on.Given as goal
+
+abbrev pub invariant-loop-self : goal.invariant-loop-self
+invariant-loop-self g l = record {
+  same : Keeps (ahead l.fn.self.kept (g.S.Source.left l.fn.source)) (ahead l.self.kept (g.S.Source.left l.source));
+  undecided : IsUndecided l.self.kept;
+  free : l.self.stuck ≡ false;
+  later : g.S.Source.faults l.fn.source ≤ g.S.Source.faults l.source;
+}
+
+abbrev pub decreases-loop-self : goal.decreases-loop-self
+decreases-loop-self g l = 513 - length l.self.kept
