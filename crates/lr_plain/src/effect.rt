@@ -75,7 +75,9 @@ pub fn answer(moment: u64, op: &Op, held: Option<Hold>) -> Effect
         Op::LockUnlock { owner, rest, .. } if is_lease(rest) => unlock(moment, owner, rest, held),
         Op::LockRenew { owner, lease, .. } if is_lease(lease) => renew(moment, owner, lease, held),
         Op::LockForce { .. } => force(held),
-        _ => unchanged(Reply::BadLease, held),
+        Op::LockTry { .. } | Op::LockUnlock { .. } | Op::LockRenew { .. } => {
+            unchanged(Reply::BadLease, held)
+        }
     }
 }
 

@@ -5,5 +5,7 @@
 mod effect;
 mod lock;
 mod server;
+#[cfg(test)]
+mod tests;
 
 pub use server::{PlainServer, PlainWorld, plain_world};

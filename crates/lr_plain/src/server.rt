@@ -64,6 +64,7 @@ impl PlainServer {
 impl Server for PlainServer {
     ghost history = { λ s. s };
 
+    #[tactic(auto, using(crate::proofs::Steps::kept_on, crate::proofs::Steps::replied_so))]
     fn call(
         &mut self,
         moment: u64,
