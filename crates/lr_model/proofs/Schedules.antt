@@ -35,14 +35,14 @@ first_connection b = if b then opened_by 0 else closed
 unreached : (post : Post) (connection : Connection) → connection.channels ≡ [] → told post connection ≡ connection
 unreached post connection e = rw e refl
 
-no_channels : (conn : ℕ) → (first_state.board conn).channels ≡ []
+pub no_channels : (conn : ℕ) → (first_state.board conn).channels ≡ []
 no_channels conn = by_case (nat_le conn 128)
   where
     by_case : (b : Bool) → (first_connection b).channels ≡ []
     by_case true = refl
     by_case false = refl
 
-posted_quiet : (post : Option Post) (board : Board) → ((conn : ℕ) → board conn ≡ first_state.board conn) → (conn : ℕ) → posted post board conn ≡ first_state.board conn
+pub posted_quiet : (post : Option Post) (board : Board) → ((conn : ℕ) → board conn ≡ first_state.board conn) → (conn : ℕ) → posted post board conn ≡ first_state.board conn
 posted_quiet None board quiet conn = quiet conn
 posted_quiet (Some post) board quiet conn =
     let none : (board conn).channels ≡ [] = ap (λ (c : Connection). c.channels) (quiet conn) ∙ no_channels conn in
