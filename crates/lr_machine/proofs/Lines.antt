@@ -3,7 +3,7 @@ use Rattle.std.proofs.Common.{◌≡◌, ◌≢◌, ◌⊎◌, inl, inr, ℕ, �
 use Rattle.std.specs.Io.KnownBytes.{Appends}
 use Rattle.std.proofs.KnownBytes.{Appends-nil}
 use Rattle.lr_outside.specs.Lines.{lines_of, HasNoLineEnd, IsFirstLine, BeginsTooLong, ahead, WhereKnown, IsTurn, IsUndecided}
-use Rattle.lr_outside.specs.Turns.{AppendsFront}
+use Rattle.lr_outside.specs.Turns.{AppendsFront, Rose}
 use Rattle.lr_outside.specs.declared.TheConstants.{LINE_BYTES}
 use Rattle.lr_outside.specs.declared.line_reader.LineTurn.TheVariants.{Line, End, TooLong, Fault}
 use Rattle.lr_outside.specs.declared.status.Status.{Status}
@@ -13,7 +13,7 @@ use Rattle.lr_model.specs.declared.schedule_line.ScheduleLine.{ScheduleLine}
 use Rattle.lr_model.specs.declared.schedule_line.ScheduleLine.TheVariants as kinds
 use Rattle.lr_model.specs.Transcript.{IsLine}
 use Rattle.lr_model.specs.World.{World}
-use Rattle.lr_machine.specs.Play.{WereRead, EndsRefused}
+use Rattle.lr_machine.specs.Play.{WereRead, EndsRefused, HasCause}
 use Rattle.lr_machine.specs.Progress.{Progress, IsAt, Ends, text_of, world_after_line, Told, IsEventLine}
 use Rattle.lr_machine.proofs.Progress.{stopped, in_part, ran_through, broke_off, goes_on, was_read, refused}
 
@@ -154,3 +154,16 @@ module _ (kept kept' all before : List ℕ) (left left' held held' : Option (Lis
 -- nothing was written yet
 pub nothing_told : (held : Option (List ℕ)) (text : List ℕ) → AppendsFront held held text
 nothing_told held text = ([], text, refl, Appends-nil held)
+
+-- a line ends the run with a cause
+pub cause_of : (world : World) (number : ℕ) (kind : ScheduleLine) (held held' : Option (List ℕ)) (read read' write write' : ℕ) (status : Status) → Told world number kind held held' (Some status)
+    → (status ≡ statuses.WriteFault → Rose write write') → HasCause read read' write write' status
+cause_of world number kind held held' read read' write write' (statuses.BadLine n) told rose = tt
+cause_of world number kind held held' read read' write write' (statuses.TooMany n) told rose = tt
+cause_of world number kind held held' read read' write write' statuses.WriteFault told rose = rose refl
+cause_of world number kind held held' read read' write write' statuses.NoMemory told rose = tt
+cause_of world number kind held held' read read' write write' statuses.Done told rose = absurd told
+cause_of world number kind held held' read read' write write' statuses.Usage told rose = absurd told
+cause_of world number kind held held' read read' write write' statuses.ReadFault told rose = absurd told
+cause_of world number kind held held' read read' write write' (statuses.Wrong n) told rose = absurd told
+cause_of world number kind held held' read read' write write' statuses.Closed told rose = absurd told

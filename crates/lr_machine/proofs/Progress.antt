@@ -152,3 +152,31 @@ module _ (all before left held : List ℕ) (number : ℕ) (world : World) (p : P
     events = p.events;
     refused = ⊎_elim (λ b. inl (subst (λ n. IsLine n line kinds.Bad) p.count b)) (λ t. inr (subst (λ n. IsLine n line kinds.TooMany) p.count t)) is;
   }
+
+-- before the first line
+pub start : (all before : List ℕ) → Progress all before all before 1 first_world
+start all before = record {
+  done = [];
+  written = [];
+  holds = sym (append-nil before);
+  lines = refl;
+  count = refl;
+  events = tt;
+  tells = λ ls text gives. gives;
+  taken = inl refl;
+}
+
+-- a run that has taken nothing and written nothing
+pub nothing_written : (all before : List ℕ) → WrittenInPart all all before before
+nothing_written all before = record {
+  lines = [];
+  later = lines_of all;
+  first = refl;
+  taken = inl (inl ([], refl));
+  text = [];
+  gives = refl;
+  front = [];
+  unwritten = [];
+  cut = refl;
+  written = sym (append-nil before);
+}
