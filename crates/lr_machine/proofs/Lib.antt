@@ -1,2 +1,5 @@
 pub mod Rows
 pub mod Results
+pub mod Progress
+pub mod Lines
+pub mod Long

@@ -1,3 +1,4 @@
 pub mod Waiters
 pub mod Machine
 pub mod Play
+pub mod Progress

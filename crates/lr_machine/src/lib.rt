@@ -2,6 +2,7 @@
 #![tactic(auto)]
 
 mod machine;
+mod play;
 mod server;
 mod steps;
 mod waiters;

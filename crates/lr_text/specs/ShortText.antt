@@ -1,8 +1,7 @@
 -- Bytes kept in place. What stands behind them in the array is zero, so that equal bytes are equal values.
 use Rattle.std.specs.Prelude.{◌≡◌, ℕ, ◌-◌, ◌≤◌, List, ◌++◌, length, take, drop, replicate}
 use Rattle.std.proofs.Common.{sym, ap, ◌∙◌, take-append-drop, arith}
-use Rattle.std.proofs.lemmas.List.{length-take-le, length-append, length-replicate, drop-replicate}
-use Rattle.std.proofs.Math.Seq.{drop-append_seam}
+use Rattle.std.proofs.lemmas.List.{length-take-le}
 
 -- the bytes are the first len of the array, and the rest of it is zero
 pub record IsPadded (cap len : ℕ) (bytes : List ℕ) : Type 0 where
@@ -22,11 +21,3 @@ pub padded-front : (cap len : ℕ) (bytes : List ℕ) → IsPadded cap len bytes
 padded-front cap len bytes h =
     ap (λ n. take len bytes ++ replicate (cap - n) 0) (length-front cap len bytes h)
     ∙ ap (λ (l : List ℕ). take len bytes ++ l) (sym h.zeros) ∙ take-append-drop len bytes
-
--- zeros that bytes were written over
-pub IsPadded-written : (cap : ℕ) (text : List ℕ) → length text ≤ cap → IsPadded cap (length text) (text ++ drop (length text) (replicate cap 0))
-IsPadded-written cap text fits = record {
-  whole = simp (length-append, drop-replicate, length-replicate) (omega arith);
-  within = fits;
-  zeros = drop-append_seam text (drop (length text) (replicate cap 0)) ∙ drop-replicate (length text) cap 0;
-}

@@ -46,12 +46,9 @@ impl<const CAP: usize> ShortText<CAP> {
         if text.len() > CAP {
             return None;
         }
-        let mut bytes = [0; CAP];
-        bytes[..text.len()].copy_from_slice(text);
-        Some(ShortText {
-            bytes,
-            len: text.len(),
-        })
+        let mut short = ShortText::new();
+        short.push_bytes(text);
+        Some(short)
     }
 
     /// Appends these bytes.

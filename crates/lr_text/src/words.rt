@@ -33,6 +33,12 @@ impl<'a> Words<'a> {
         ensures alone { (word : List ℕ) (rest : List (List ℕ)) → IsTrue (are_words (word ∷ rest))
             → line.now ≡ joined (word ∷ rest) → result ≡ word ∷ rest }
     {
+        Words::start(line)
+    }
+
+    fn start(line: &'a [u8]) -> Words<'a>
+        ensures { result ≡ words_of line.now }
+    {
         Words {
             rest: line,
             over: false,

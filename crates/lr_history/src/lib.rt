@@ -1,0 +1,28 @@
+//! The stored history of a server: the entries of its steps, in the order in which they were made. It grows
+//! by whole segments, so that what is stored is never copied.
+#![tactic(auto)]
+
+mod entries;
+mod fault;
+mod history;
+mod segment;
+
+pub use entries::Entries;
+pub use fault::HistoryFault;
+pub use history::History;
+pub use lr_model::{Act, Entry};
+
+/// How many entries a history takes. Only closes of connections may stand behind them.
+pub const MOST_ENTRIES: u64 = 2_000_000;
+
+/// How many entries a segment has room for.
+const SEGMENT_ENTRIES: usize = 1_024;
+
+/// So many segments hold a full history and a close of each of 256 connections behind it.
+const TABLE_SEGMENTS: usize = 1_954;
+
+/// More segments than any memory holds. With it the number of entries stays below 2 ^ 63.
+const MOST_SEGMENTS: usize = 1 << 52;
+
+#[cfg(test)]
+mod tests;

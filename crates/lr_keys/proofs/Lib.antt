@@ -1,0 +1,4 @@
+pub mod FieldMapLemmas
+pub mod KeptLemmas
+pub mod LiveLemmas
+pub mod TableLaws

@@ -1,0 +1,54 @@
+use Rattle.std.proofs.Common.{◌≡◌, ℕ, List, Option, Some, None, if◌then◌else◌, refl, sym, ap, ◌∙◌, arith}
+use Rattle.std.proofs.Math.Nat.{le_trans}
+use Rattle.std.specs.Option.{option_copied_mut}
+use Rattle.std.specs.Str.{bytes_eq}
+use Rattle.indexmap.specs.IndexMap.{get}
+use Rattle.lr_keys.specs.declared.key_space.KeySpace.TheInside.{Inside}
+use Rattle.lr_keys.specs.declared.slot.Slot.{Slot}
+use Rattle.lr_keys.specs.KeySpace.{entry_without_field}
+use Rattle.lr_keys.specs.Table.{put}
+use Rattle.lr_keys.proofs.KeptLemmas.{IsKept-set, IsRoomFor-without_field, IsSome-lent, IsSome-slot, IsSoundSlot-without_field, entry_at-changed, entry_at-read, plan_at-same, sets_then_gone, sets_written, shown_without_field}
+use Rattle.lr_keys.proofs.key_space.KeySpace.remove_field.Goals as goal
+
+pub unwrap-slot-requires : goal.unwrap-slot-requires
+unwrap-slot-requires c =
+    let shows = entry_at-read c.self.inside c.args.self.now c.args.key.now (get bytes_eq c.self.inside.slots c.args.key.now) c.self.view_is refl in
+    IsSome-lent c.get_mut.result _ c.get_mut.ensures.value (IsSome-slot c.args.self.now c.args.key.now c.args.field.now _ shows c.requires)
+
+-- the slot without the field, what the key has then, and the fields after the call
+abbrev slot_without : goal.After-remove_if → Slot
+slot_without c = record c.unwrap-slot.result.now { value = c.remove_field-emptied.new.self }
+
+abbrev left : goal.After-remove_if → Option Slot
+left c = if c.remove_field-emptied.result then None else Some (slot_without c)
+
+abbrev after : goal.After-remove_if → Inside
+after c = record c.self.inside { slots = c.remove_if.new.table }
+
+found : (c : goal.After-remove_if) → Some c.unwrap-slot.result.now ≡ get bytes_eq c.self.inside.slots c.args.key.now
+found c = sym (ap option_copied_mut c.unwrap-slot.ensures) ∙ c.get_mut.ensures.value
+
+sets : (c : goal.After-remove_if) (q : List ℕ) → get bytes_eq (after c).slots q ≡ put c.args.key.now (left c) (get bytes_eq c.self.inside.slots) q
+sets c =
+    let writes = sets_written c.self.inside.slots _ c.args.key.now c.unwrap-slot.result.now (slot_without c) (found c) (c.get_mut.follows.holds (slot_without c)) in
+    sets_then_gone (get bytes_eq c.self.inside.slots) _ (get bytes_eq (after c).slots) c.args.key.now (slot_without c) c.remove_field-emptied.result writes c.remove_if.ensures.table
+
+pub invariant_of-self : goal.invariant_of-self
+invariant_of-self c =
+    let inside = c.self.inside in
+    let u = c.unwrap-slot.result.now in
+    let removed = c.remove_field-emptied.ensures in
+    IsKept-set inside (after c) c.args.key.now (left c) c.self.invariant refl (omega arith) refl (sets c)
+    (omega (arith, (c.get_mut.follows.holds (slot_without c)).6, c.remove_if.ensures.room))
+    (IsSoundSlot-without_field inside.moment inside.least_expiry u _ c.args.field.now _ (c.self.invariant.slots c.args.key.now u (sym (found c))) removed.empty removed.value)
+    (IsRoomFor-without_field _ u (slot_without c) _ (found c) removed.room)
+
+pub returns-clause-entry : goal.returns-clause-entry
+returns-clause-entry c =
+    let u = c.unwrap-slot.result.now in
+    let removed = c.remove_field-emptied.ensures in
+    entry_at-changed c.self.inside (after c) c.args.self.now c.args.key.now (Some u) (left c) (entry_without_field c.args.field.now) c.self.view_is (found c) (sets c)
+    (shown_without_field u _ c.args.field.now _ removed.empty removed.value)
+
+pub returns-clause-prepared : goal.returns-clause-prepared
+returns-clause-prepared c = plan_at-same c.self.inside (after c) c.args.self.now c.self.view_is refl

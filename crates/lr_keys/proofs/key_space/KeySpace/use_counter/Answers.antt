@@ -1,0 +1,37 @@
+use Rattle.std.proofs.Common.{◌≡◌, ℕ, List, [], Some, None, true, refl, ap, ◌∙◌, arith, w64, to_z, of_z}
+use Rattle.std.proofs.lemmas.Int.{to_z-of_z}
+use Rattle.lr_keys.specs.declared.key_space.KeySpace.TheInside.{Inside}
+use Rattle.lr_keys.specs.declared.slot.Slot.{Slot}
+use Rattle.lr_keys.specs.declared.slot.Stored.TheVariants.{Counter}
+use Rattle.lr_keys.specs.declared.value_kind.ValueKind.TheVariants.{Counter as CounterKind}
+use Rattle.lr_keys.specs.KeySpace.{Number, Entry, entry_at}
+use Rattle.lr_keys.specs.Kept.{new_slot}
+use Rattle.lr_keys.specs.Table.{put}
+use Rattle.lr_keys.proofs.KeptLemmas.{IsKept-grown, IsLive-counter, IsSome-planned, IsSoundSlot-new, entry_at-set, plan_at-spent}
+use Rattle.lr_keys.proofs.key_space.KeySpace.use_counter.Goals as goal
+
+pub drop_spare-requires : goal.drop_spare-requires
+drop_spare-requires c = IsSome-planned c.self.inside c.args.self.now c.args.key.now [] CounterKind c.self.view_is c.requires.prepared
+
+-- the slot and the fields after the call
+abbrev slot_after : goal.After-insert_slot → Slot
+slot_after c = new_slot (Counter (to_z w64 (of_z w64 c.args.number)))
+
+abbrev after : goal.After-insert_slot → Inside
+after c = record c.self.inside { slots = c.insert_slot.new.slots; spares = c.drop_spare.new.spares }
+
+pub invariant_of-self : goal.invariant_of-self
+invariant_of-self c =
+    let inside = c.self.inside in
+    IsKept-grown inside (after c) c.args.key.now (slot_after c) true c.self.invariant refl refl c.insert_slot.ensures.slots c.drop_spare.ensures.spares
+    (omega (arith, c.self.invariant.room, c.drop_spare.ensures.fewer, c.insert_slot.ensures.room))
+    (IsSoundSlot-new inside.moment inside.least_expiry (slot_after c).value (IsLive-counter inside.moment _))
+    (λ unspent kind room. absurd (cc unspent))
+
+pub returns-clause-entry : goal.returns-clause-entry
+returns-clause-entry c =
+    entry_at-set c.self.inside (after c) c.args.self.now c.args.key.now (Some (slot_after c)) c.self.view_is c.insert_slot.ensures.slots
+    ∙ ap (λ n. put {X = Entry} c.args.key.now (Some (record { value = Number n; expiry = None })) (entry_at c.args.self.now)) (to_z-of_z w64 c.args.number c.ranges.number)
+
+pub returns-clause-prepared : goal.returns-clause-prepared
+returns-clause-prepared c = plan_at-spent c.self.inside (after c) c.args.self.now c.args.key.now true c.self.view_is c.drop_spare.ensures.spares

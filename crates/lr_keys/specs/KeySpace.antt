@@ -1,0 +1,199 @@
+-- Keys with a value and an expiry or none, and what each call does to them, as the Redis command pages say.
+use Rattle.std.specs.Prelude.{◌≡◌, ◌+◌, ◌-◌, ◌≤◌, ◌<◌, ℕ, Bool, true, false, nat_lt, ◌&&◌, List, [], ◌∷◌, length, Option, Some, None, is_some, Result, Ok, Err, IsOk, ℤ, pos, negsuc, if◌then◌else◌, option_map}
+use Rattle.std.specs.Option.{option_and_then, ok_or, ForSome}
+use Rattle.std.specs.Str.{bytes_eq}
+use Rattle.std.specs.Map.{lookup}
+use Rattle.lr_keys.specs.declared.TheConstants.{MAX_MEMBERS, MAX_MOMENT, MAX_LEASE}
+use Rattle.lr_keys.specs.declared.fault.KeyFault.{KeyFault}
+use Rattle.lr_keys.specs.declared.fault.KeyFault.TheVariants.{WrongKind, Overflow, TooMany, NoMemory}
+use Rattle.lr_keys.specs.declared.value_kind.ValueKind.{ValueKind}
+use Rattle.lr_keys.specs.declared.value_kind.ValueKind.TheVariants.{Hash, List as ListKind, Zset, Counter}
+use Rattle.lr_keys.specs.FieldMap.{field_value, with_field, without_field, sum_of}
+use Rattle.lr_keys.specs.Table.{put}
+
+-- what a key holds: the fields of a hash in order of making, or the number of a counter
+pub data Content : Type 0 where
+  Fields : List (List ℕ × ℤ) → Content
+  Number : ℤ → Content
+
+-- a key's value, and the moment from which on the key is gone, if any
+pub record Entry : Type 0 where
+  pub value : Content
+  pub expiry : Option ℕ
+
+-- the kind and the member that memory was taken for
+pub record Plan : Type 0 where
+  pub kind : ValueKind
+  pub member : List ℕ
+
+-- a key space: the moment, the keys, and the keys for which memory was taken
+pub record Keys : Type 0 where
+  pub moment : ℕ
+  pub entries : List (List ℕ × Entry)
+  pub plans : List (List ℕ × Plan)
+
+-- what is at a key
+unfoldable pub entry_at : Keys → List ℕ → Option Entry
+entry_at keys key = lookup (bytes_eq key) keys.entries
+
+-- what memory was taken for at a key
+unfoldable pub plan_at : Keys → List ℕ → Option Plan
+plan_at keys key = lookup (bytes_eq key) keys.plans
+
+-- memory was taken for this member of the key, as a key of this kind, and wasn't used yet
+abbrev pub IsPrepared : Keys → List ℕ → ValueKind → List ℕ → Type 0
+IsPrepared keys key kind member = plan_at keys key ≡ Some (record { kind = kind; member = member })
+
+-- an entry of a key that is there at the moment: its expiry lies ahead, by a lease at most, and a hash has 1 to MAX_MEMBERS fields
+pub record IsLive (moment : ℕ) (entry : Entry) : Type 0 where
+  pub ahead : ForSome entry.expiry (λ expiry. moment < expiry)
+  pub near : ForSome entry.expiry (λ expiry. expiry ≤ MAX_MOMENT + MAX_LEASE)
+  pub some_fields : (pairs : List (List ℕ × ℤ)) → entry.value ≡ Fields pairs → 0 < length pairs
+  pub few_fields : (pairs : List (List ℕ × ℤ)) → entry.value ≡ Fields pairs → length pairs ≤ MAX_MEMBERS
+
+-- each key is there at the moment, and the moment is one that a clock shows
+pub record IsSound (keys : Keys) : Type 0 where
+  pub moment : keys.moment ≤ MAX_MOMENT
+  pub live : (key : List ℕ) → ForSome (entry_at keys key) (IsLive keys.moment)
+
+-- the call answers so, but where it would succeed it may find no memory
+abbrev pub Answers : {T U : Type 0} → (T → U) → Result T KeyFault → Result U KeyFault → Type 0
+Answers shown (Ok v) answer = answer ≡ Ok (shown v)
+Answers shown (Err NoMemory) answer = IsOk answer
+Answers shown (Err fault) answer = answer ≡ Err fault
+
+-- the kind of a value (Redis command page TYPE)
+abbrev pub kind_in : Content → ValueKind
+kind_in (Fields _) = Hash
+kind_in (Number _) = Counter
+
+abbrev pub kind_at : Option Entry → Option ValueKind
+kind_at None = None
+kind_at (Some e) = Some (kind_in e.value)
+
+-- the fields of the hash: an absent key is an empty hash (Redis command page HGETALL)
+abbrev pub hash_in : Content → Result (List (List ℕ × ℤ)) KeyFault
+hash_in (Fields pairs) = Ok pairs
+hash_in (Number _) = Err WrongKind
+
+abbrev pub hash_at : Option Entry → Result (List (List ℕ × ℤ)) KeyFault
+hash_at None = Ok []
+hash_at (Some e) = hash_in e.value
+
+-- the number of the counter, if the key is there (Redis command page GET)
+abbrev pub counter_in : Content → Result (Option ℤ) KeyFault
+counter_in (Number n) = Ok (Some n)
+counter_in (Fields _) = Err WrongKind
+
+abbrev pub counter_at : Option Entry → Result (Option ℤ) KeyFault
+counter_at None = Ok None
+counter_at (Some e) = counter_in e.value
+
+-- the number of a field of the hash (Redis command page HGET)
+abbrev pub field_of : List ℕ → Result (List (List ℕ × ℤ)) KeyFault → Result (Option ℤ) KeyFault
+field_of field (Ok pairs) = Ok (field_value field pairs)
+field_of field (Err fault) = Err fault
+
+abbrev pub field_at : List ℕ → Option Entry → Result (Option ℤ) KeyFault
+field_at field entry = field_of field (hash_at entry)
+
+-- whether the number is there
+abbrev pub is_there : Result (Option ℤ) KeyFault → Bool
+is_there (Ok number) = is_some number
+is_there (Err _) = false
+
+-- whether the number was there, as a removal says (Redis command page HDEL)
+abbrev pub found_in : Result (Option ℤ) KeyFault → Result Bool KeyFault
+found_in (Ok number) = Ok (is_some number)
+found_in (Err fault) = Err fault
+
+-- what an increment makes of a number: a number that isn't there counts as 0, and a hash takes MAX_MEMBERS fields (Redis command
+-- pages HINCRBY and INCRBY; the limit is this project's own)
+abbrev pub raised : ℤ → Bool → Option ℤ → Result ℤ KeyFault
+raised by has_room (Some number) = ok_or (sum_of number by) Overflow
+raised by has_room None = if has_room then Ok by else Err TooMany
+
+abbrev pub raised_in : List ℕ → ℤ → Result (List (List ℕ × ℤ)) KeyFault → Result ℤ KeyFault
+raised_in field by (Ok pairs) = raised by (nat_lt (length pairs) MAX_MEMBERS) (field_value field pairs)
+raised_in field by (Err fault) = Err fault
+
+abbrev pub raised_counter : ℤ → Result (Option ℤ) KeyFault → Result ℤ KeyFault
+raised_counter by (Ok number) = raised by true number
+raised_counter by (Err fault) = Err fault
+
+-- the value with this number for the field
+abbrev pub content_with_field : List ℕ → ℤ → Content → Content
+content_with_field field number (Fields pairs) = Fields (with_field field number pairs)
+content_with_field field number (Number n) = Number n
+
+-- the entry with this number for the field: an absent key is made with no expiry, and else the expiry stays (Redis command page HINCRBY)
+abbrev pub entry_with_field : List ℕ → ℤ → Option Entry → Entry
+entry_with_field field number None = record { value = Fields ((field, number) ∷ []); expiry = None }
+entry_with_field field number (Some e) = record e { value = content_with_field field number e.value }
+
+-- the entry with this number of the counter: an absent key is made with no expiry, and else the expiry stays (Redis command page INCRBY)
+abbrev pub entry_with_number : ℤ → Option Entry → Entry
+entry_with_number number None = record { value = Number number; expiry = None }
+entry_with_number number (Some e) = record e { value = Number number }
+
+-- the value without the field
+abbrev pub content_without_field : List ℕ → Content → Content
+content_without_field field (Fields pairs) = Fields (without_field field pairs)
+content_without_field field (Number n) = Number n
+
+abbrev pub is_empty_hash : Content → Bool
+is_empty_hash (Fields []) = true
+is_empty_hash (Fields (p ∷ ps)) = false
+is_empty_hash (Number n) = false
+
+-- the entry without the field: a hash that becomes empty is removed (Redis command page HDEL)
+abbrev pub entry_with_value : Content → Option ℕ → Option Entry
+entry_with_value value expiry = if is_empty_hash value then None else Some (record { value = value; expiry = expiry })
+
+abbrev pub entry_without_field : List ℕ → Option Entry → Option Entry
+entry_without_field field None = None
+entry_without_field field (Some e) = entry_with_value (content_without_field field e.value) e.expiry
+
+-- the entry with this expiry (Redis command page PEXPIREAT)
+abbrev pub entry_with_expiry : ℕ → Option Entry → Option Entry
+entry_with_expiry expiry None = None
+entry_with_expiry expiry (Some e) = Some (record e { expiry = Some expiry })
+
+-- the milliseconds left: -2 where the key is absent, -1 where it has no expiry (Redis command page PTTL)
+abbrev pub time_to : ℕ → Option ℕ → ℤ
+time_to moment (Some expiry) = pos (expiry - moment)
+time_to moment None = negsuc 0
+
+abbrev pub time_left : ℕ → Option Entry → ℤ
+time_left moment (Some e) = time_to moment e.expiry
+time_left moment None = negsuc 1
+
+-- whether a key with this expiry is there at the moment: one whose expiry is at most the moment is gone (Redis command page EXPIRE)
+abbrev pub is_ahead : ℕ → Option ℕ → Bool
+is_ahead moment (Some expiry) = nat_lt moment expiry
+is_ahead moment None = true
+
+abbrev pub live_entry : ℕ → Option Entry → Option Entry
+live_entry moment (Some e) = if is_ahead moment e.expiry then Some e else None
+live_entry moment None = None
+
+-- the keys that are there at the moment
+abbrev pub live_entries : ℕ → (List ℕ → Option Entry) → List ℕ → Option Entry
+live_entries moment entries key = live_entry moment (entries key)
+
+-- whether two kinds are the same
+abbrev pub is_same_kind : ValueKind → ValueKind → Bool
+is_same_kind Hash Hash = true
+is_same_kind ListKind ListKind = true
+is_same_kind Zset Zset = true
+is_same_kind Counter Counter = true
+is_same_kind _ _ = false
+
+-- whether memory was taken for this kind and this member
+abbrev pub is_plan_for : ValueKind → List ℕ → Option Plan → Bool
+is_plan_for kind member (Some plan) = is_same_kind kind plan.kind && bytes_eq member plan.member
+is_plan_for kind member None = false
+
+-- what is prepared once the key has the member: what was prepared for it is used up, if it wasn't there
+abbrev pub plans_after : Bool → List ℕ → ValueKind → List ℕ → (List ℕ → Option Plan) → List ℕ → Option Plan
+plans_after was_there key kind member plans = if was_there then plans else (if is_plan_for kind member (plans key) then put key None plans else plans)

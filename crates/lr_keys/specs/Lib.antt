@@ -1,0 +1,4 @@
+pub mod FieldMap
+pub mod KeySpace
+pub mod Kept
+pub mod Table

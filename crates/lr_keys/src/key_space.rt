@@ -1,0 +1,452 @@
+ghost use Rattle.std.specs.Prelude.{◌≡◌, ℕ, ℤ, List, [], ◌+◌, ◌<◌, ◌≤◌, length, None, IsSome, IsTrue, IsOk, IfOk, OnOk, OnErr, is_some, false, true, ◌≢◌, max, option_map, if◌then◌else◌};
+ghost use Rattle.std.specs.Option.{option_copied, ForSome};
+ghost use Rattle.std.specs.Str.{bytes_eq};
+ghost use Rattle.indexmap.specs.IndexMap.{get, index_map_len, spare};
+ghost use Rattle.lr_keys.specs.KeySpace.{Answers, IsLive, IsPrepared, IsSound, entry_at, plan_at, is_plan_for, plans_after, kind_at, hash_at, counter_at, field_at, found_in, is_there, raised_in, raised_counter, entry_with_field, entry_with_number, entry_without_field, entry_with_expiry, time_left, live_entries};
+ghost use Rattle.lr_keys.specs.Table.{put};
+
+use super::fault::KeyFault;
+use super::field_map::{FieldMap, checked_sum};
+use super::slot::{Slot, Spare, Stored};
+use super::tables::{drop_spare, insert_slot, make_room, remove_gone, remove_if, take_spare};
+use super::value_kind::ValueKind;
+use super::{MAX_LEASE, MAX_MEMBERS, MAX_MOMENT, PREPARED_KEYS};
+use indexmap::IndexMap;
+use lr_text::Brief;
+use std::alloc::{AllocError, Global};
+use std::marker::Model;
+
+/// The fields of a hash and their numbers, in order of making.
+pub type Fields = Vec<(Brief, i64)>;
+
+/// Keys with a value, and an expiry or none, at a moment.
+///
+/// A moment is a number of milliseconds. A key whose expiry is at most the moment is gone.
+#[derive(Drop)]
+pub struct KeySpace {
+    moment: u64,
+    /// No key expires before this: `u64::MAX` where none expires at all.
+    least_expiry: u64,
+    slots: IndexMap<Brief, Slot>,
+    spares: IndexMap<Brief, Spare>,
+}
+
+impl Model for KeySpace {
+    ghost use Rattle.lr_keys.specs.KeySpace.{Keys};
+
+    ghost Value = { Keys };
+
+    ghost use Rattle.lr_keys.specs.Kept.{shown_keys, IsKept};
+
+    ghost view = { shown_keys };
+
+    ghost invariant = { IsKept };
+}
+
+impl KeySpace {
+    ghost use Rattle.lr_keys.specs.Kept.{HasRoom, new_slot, shown};
+
+    /// No keys, at moment 0.
+    pub fn new(alloc: Global) -> Result<Self, AllocError>
+        ensures moment { IfOk result (λ keys. keys.moment ≡ 0) }
+        ensures none { IfOk result (λ keys. entry_at keys ≡ (λ _. None)) }
+        ensures unprepared { IfOk result (λ keys. plan_at keys ≡ (λ _. None)) }
+    {
+        Ok(KeySpace {
+            moment: 0,
+            least_expiry: u64::MAX,
+            slots: IndexMap::new(alloc),
+            spares: IndexMap::with_capacity(alloc, PREPARED_KEYS)?,
+        })
+    }
+
+    /// The moment.
+    pub fn moment(&self) -> u64
+        ensures moment { result ≡ self.now.moment }
+        ensures sound { IsSound self.now }
+    {
+        self.moment
+    }
+
+    // What is at the key.
+    fn slot(&self, key: &Brief) -> Option<&Slot>
+        ensures entry { entry_at self.now key.now ≡ option_map shown (option_copied result) }
+        ensures live { ForSome (option_copied result) (λ s. IsLive self.now.moment (shown s)) }
+    {
+        self.slots.get(key)
+    }
+
+    /// Goes on to this moment, and stays where it is earlier. Removes each key whose expiry is at most the moment.
+    pub fn advance(&mut self, moment: u64)
+        requires { moment ≤ MAX_MOMENT }
+        ensures moment { self.new.moment ≡ max self.old.moment moment }
+        ensures entries { entry_at self.new ≡ live_entries (max self.old.moment moment) (entry_at self.old) }
+        ensures prepared { plan_at self.new ≡ plan_at self.old }
+    {
+        let moment = self.moment.max(moment);
+        self.moment = moment;
+        if moment < self.least_expiry {
+            return;
+        }
+        self.least_expiry = remove_gone(&mut self.slots, moment);
+    }
+
+    /// Whether the key is there.
+    pub fn exists(&self, key: &Brief) -> bool
+        ensures { result ≡ is_some (entry_at self.now key.now) }
+    {
+        self.slot(key).is_some()
+    }
+
+    /// The kind of the key's value, if the key is there.
+    pub fn kind_of(&self, key: &Brief) -> Option<ValueKind>
+        ensures { result ≡ kind_at (entry_at self.now key.now) }
+    {
+        match self.slot(key) {
+            Some(slot) => Some(slot.value.kind()),
+            None => None,
+        }
+    }
+
+    /// The milliseconds that are left of the key: -2 where it is absent, and -1 where it has no expiry.
+    pub fn pttl(&self, key: &Brief) -> i64
+        ensures { result ≡ time_left self.now.moment (entry_at self.now key.now) }
+    {
+        match self.slot(key) {
+            Some(slot) => match slot.expiry {
+                Some(expiry) => (expiry - self.moment) as i64,
+                None => -1,
+            },
+            None => -2,
+        }
+    }
+
+    /// The number of a field of the hash, if the field is there.
+    pub fn hget(&self, key: &Brief, field: &Brief) -> Result<Option<i64>, KeyFault>
+        ensures { result ≡ field_at field.now (entry_at self.now key.now) }
+    {
+        match self.slot(key) {
+            Some(slot) => slot.value.field(field),
+            None => Ok(None),
+        }
+    }
+
+    /// The number of the counter, if the key is there.
+    pub fn get(&self, key: &Brief) -> Result<Option<i64>, KeyFault>
+        ensures { result ≡ counter_at (entry_at self.now key.now) }
+    {
+        match self.slot(key) {
+            Some(slot) => slot.value.counter(),
+            None => Ok(None),
+        }
+    }
+
+    /// The fields of the hash and their numbers, in order of making.
+    pub fn hgetall(&self, alloc: Global, key: &Brief) -> Result<Fields, KeyFault>
+        ensures { Answers (λ fields. fields.items) result (hash_at (entry_at self.now key.now)) }
+    {
+        match self.slot(key) {
+            Some(slot) => slot.value.pairs(alloc),
+            None => Ok(Vec::new(alloc)),
+        }
+    }
+
+    /// Removes the key, and says whether it was there.
+    pub fn del(&mut self, key: &Brief) -> bool
+        ensures found { result ≡ is_some (entry_at self.old key.now) }
+        ensures removed { entry_at self.new ≡ put key.now None (entry_at self.old) }
+        ensures moment { self.new.moment ≡ self.old.moment }
+        ensures prepared { plan_at self.new ≡ plan_at self.old }
+        ensures absent { result ≡ false → self.new ≡ self.old }
+    {
+        self.slots.swap_remove(key).is_some()
+    }
+
+    /// Sets the key's expiry to this many milliseconds from the moment, and says whether the key is there.
+    pub fn pexpire(&mut self, key: &Brief, millis: u64) -> bool
+        requires some { 1 ≤ millis }
+        requires few { millis ≤ MAX_LEASE }
+        ensures found { result ≡ is_some (entry_at self.old key.now) }
+        ensures expires { entry_at self.new ≡ put key.now (entry_with_expiry (self.old.moment + millis) (entry_at self.old key.now)) (entry_at self.old) }
+        ensures moment { self.new.moment ≡ self.old.moment }
+        ensures prepared { plan_at self.new ≡ plan_at self.old }
+        ensures absent { result ≡ false → self.new ≡ self.old }
+    {
+        let expiry = self.moment + millis;
+        let Some(slot) = self.slots.get_mut(key) else {
+            return false;
+        };
+        slot.expiry = Some(expiry);
+        self.least_expiry = self.least_expiry.min(expiry);
+        true
+    }
+
+    /// Adds to a field of the hash, and gives the sum. A field that isn't there counts as 0, and a key that isn't there becomes a
+    /// hash with no expiry.
+    ///
+    /// `WrongKind` where the key holds another kind, `TooMany` where the new field would be one more than a key may have, `Overflow`
+    /// where the sum leaves 64 signed bits. `NoMemory` comes only for a new field that isn't prepared.
+    pub fn hincrby(
+        &mut self,
+        alloc: Global,
+        key: &Brief,
+        field: &Brief,
+        by: i64,
+    ) -> Result<i64, KeyFault>
+        ensures answer { Answers (λ n. n) result (raised_in field.now by (hash_at (entry_at self.old key.now))) }
+        ensures there { IsTrue (is_there (field_at field.now (entry_at self.old key.now))) → result ≢ Err KeyFault.NoMemory }
+        ensures prepared { IsPrepared self.old key.now ValueKind.Hash field.now → result ≢ Err KeyFault.NoMemory }
+        ensures written { IfOk result (λ n. entry_at self.new ≡ put key.now (Some (entry_with_field field.now n (entry_at self.old key.now))) (entry_at self.old)) }
+        ensures plans { OnOk result (plan_at self.new ≡ plans_after (is_there (field_at field.now (entry_at self.old key.now))) key.now ValueKind.Hash field.now (plan_at self.old)) }
+        ensures moment { self.new.moment ≡ self.old.moment }
+        ensures refused { OnErr result (self.new ≡ self.old) }
+    {
+        if let Some(number) = self.hget(key, field)? {
+            let sum = checked_sum(number, by).ok_or(KeyFault::Overflow)?;
+            self.write_field(key, field, sum);
+            return Ok(sum);
+        }
+        if self.fields(key) >= MAX_MEMBERS {
+            return Err(KeyFault::TooMany);
+        }
+        self.new_field(alloc, key, field, by)?;
+        Ok(by)
+    }
+
+    /// Adds to the counter, and gives the sum. A key that isn't there becomes a counter with no expiry.
+    ///
+    /// `WrongKind` where the key holds another kind, `Overflow` where the sum leaves 64 signed bits. `NoMemory` comes only for a new
+    /// key that isn't prepared.
+    pub fn incrby(&mut self, key: &Brief, by: i64) -> Result<i64, KeyFault>
+        ensures answer { Answers (λ n. n) result (raised_counter by (counter_at (entry_at self.old key.now))) }
+        ensures there { IsTrue (is_there (counter_at (entry_at self.old key.now))) → result ≢ Err KeyFault.NoMemory }
+        ensures prepared { IsPrepared self.old key.now ValueKind.Counter [] → result ≢ Err KeyFault.NoMemory }
+        ensures written { IfOk result (λ n. entry_at self.new ≡ put key.now (Some (entry_with_number n (entry_at self.old key.now))) (entry_at self.old)) }
+        ensures plans { OnOk result (plan_at self.new ≡ plans_after (is_there (counter_at (entry_at self.old key.now))) key.now ValueKind.Counter [] (plan_at self.old)) }
+        ensures moment { self.new.moment ≡ self.old.moment }
+        ensures refused { OnErr result (self.new ≡ self.old) }
+    {
+        if let Some(number) = self.get(key)? {
+            let sum = checked_sum(number, by).ok_or(KeyFault::Overflow)?;
+            self.write_counter(key, sum);
+            return Ok(sum);
+        }
+        if self.is_prepared(key, ValueKind::Counter, &Brief::new()) {
+            self.use_counter(key, by);
+            return Ok(by);
+        }
+        self.make_key(key, Stored::Counter(by))?;
+        Ok(by)
+    }
+
+    /// Removes a field of the hash, and says whether it was there. A hash that becomes empty is removed.
+    pub fn hdel(&mut self, key: &Brief, field: &Brief) -> Result<bool, KeyFault>
+        ensures answer { result ≡ found_in (field_at field.now (entry_at self.old key.now)) }
+        ensures removed { result ≡ Ok true → entry_at self.new ≡ put key.now (entry_without_field field.now (entry_at self.old key.now)) (entry_at self.old) }
+        ensures moment { self.new.moment ≡ self.old.moment }
+        ensures prepared { plan_at self.new ≡ plan_at self.old }
+        ensures absent { result ≢ Ok true → self.new ≡ self.old }
+    {
+        if self.hget(key, field)?.is_none() {
+            return Ok(false);
+        }
+        self.remove_field(key, field);
+        Ok(true)
+    }
+
+    /// Takes the memory for this new member of the key, as a key of this kind, and for the key itself. For a counter the member is
+    /// empty.
+    ///
+    /// Until the next [`settle`](KeySpace::settle) the first call that makes the member finds that memory, whatever was removed
+    /// before. A key has one member prepared: a second call for the key replaces the first.
+    pub fn prepare(
+        &mut self,
+        alloc: Global,
+        key: &Brief,
+        kind: ValueKind,
+        member: &Brief,
+    ) -> Result<(), AllocError>
+        ensures prepared { OnOk result (plan_at self.new ≡ put key.now (Some (record { kind = kind; member = member.now })) (plan_at self.old)) }
+        ensures entries { entry_at self.new ≡ entry_at self.old }
+        ensures moment { self.new.moment ≡ self.old.moment }
+        ensures err { OnErr result (self.new ≡ self.old) }
+    {
+        let spare = Spare::new(alloc, kind, member)?;
+        self.slots.reserve(self.spares.len() + 1)?;
+        make_room(&mut self.slots, key, kind)?;
+        self.spares.insert(*key, spare)?;
+        Ok(())
+    }
+
+    /// Gives up what is left of the memory that was prepared.
+    pub fn settle(&mut self)
+        ensures prepared { plan_at self.new ≡ (λ _. None) }
+        ensures entries { entry_at self.new ≡ entry_at self.old }
+        ensures moment { self.new.moment ≡ self.old.moment }
+    {
+        self.spares.clear();
+    }
+
+    // How many fields the hash has.
+    fn fields(&self, key: &Brief) -> usize
+        ensures { (pairs : List (List ℕ × ℤ)) → hash_at (entry_at self.now key.now) ≡ Ok pairs → result ≡ length pairs }
+    {
+        match self.slot(key) {
+            Some(slot) => slot.value.fields(),
+            None => 0,
+        }
+    }
+
+    // Puts a new field into the hash, and makes that where the key is absent.
+    fn new_field(
+        &mut self,
+        alloc: Global,
+        key: &Brief,
+        field: &Brief,
+        number: i64,
+    ) -> Result<(), AllocError>
+        requires { (pairs : List (List ℕ × ℤ)) → hash_at (entry_at self.old key.now) ≡ Ok pairs → length pairs < MAX_MEMBERS }
+        ensures entry { OnOk result (entry_at self.new ≡ put key.now (Some (entry_with_field field.now number (entry_at self.old key.now))) (entry_at self.old)) }
+        ensures moment { self.new.moment ≡ self.old.moment }
+        ensures prepared { OnOk result (plan_at self.new ≡ plans_after false key.now ValueKind.Hash field.now (plan_at self.old)) }
+        ensures succeeds { IsTrue (is_plan_for ValueKind.Hash field.now (plan_at self.old key.now)) → IsOk result }
+        ensures err { OnErr result (self.new ≡ self.old) }
+    {
+        let prepared = self.is_prepared(key, ValueKind::Hash, field);
+        if self.exists(key) {
+            return self.add_field(key, field, number, prepared);
+        }
+        if prepared {
+            self.use_hash(key, field, number);
+            return Ok(());
+        }
+        self.make_hash(alloc, key, field, number)
+    }
+
+    // Whether memory for this member of the key is there.
+    fn is_prepared(&self, key: &Brief, kind: ValueKind, member: &Brief) -> bool
+        ensures { result ≡ is_plan_for kind member.now (plan_at self.now key.now) }
+    {
+        match self.spares.get(key) {
+            Some(spare) => spare.is_for(kind, member),
+            None => false,
+        }
+    }
+
+    // Writes a field that is there.
+    fn write_field(&mut self, key: &Brief, field: &Brief, number: i64)
+        requires { IsTrue (is_there (field_at field.now (entry_at self.old key.now))) }
+        ensures entry { entry_at self.new ≡ put key.now (Some (entry_with_field field.now number (entry_at self.old key.now))) (entry_at self.old) }
+        ensures moment { self.new.moment ≡ self.old.moment }
+        ensures prepared { plan_at self.new ≡ plan_at self.old }
+    {
+        let slot = self.slots.get_mut(key).unwrap();
+        slot.value.write_field(field, number);
+    }
+
+    // Puts a new field into a hash that is there.
+    fn add_field(
+        &mut self,
+        key: &Brief,
+        field: &Brief,
+        number: i64,
+        prepared: bool,
+    ) -> Result<(), AllocError>
+        requires there { IsSome (entry_at self.old key.now) }
+        requires few { (pairs : List (List ℕ × ℤ)) → hash_at (entry_at self.old key.now) ≡ Ok pairs → length pairs < MAX_MEMBERS }
+        requires prepared { prepared ≡ is_plan_for ValueKind.Hash field.now (plan_at self.old key.now) }
+        ensures entry { OnOk result (entry_at self.new ≡ put key.now (Some (entry_with_field field.now number (entry_at self.old key.now))) (entry_at self.old)) }
+        ensures moment { self.new.moment ≡ self.old.moment }
+        ensures prepared { OnOk result (plan_at self.new ≡ plans_after false key.now ValueKind.Hash field.now (plan_at self.old)) }
+        ensures succeeds { IsTrue prepared → IsOk result }
+        ensures err { OnErr result (self.new ≡ self.old) }
+    {
+        let slot = self.slots.get_mut(key).unwrap();
+        slot.value.add_field(field, number, prepared)?;
+        remove_if(&mut self.spares, key, prepared);
+        Ok(())
+    }
+
+    // Makes a key that is absent.
+    fn make_key(&mut self, key: &Brief, value: Stored) -> Result<(), AllocError>
+        requires absent { entry_at self.old key.now ≡ None }
+        requires live { IsLive self.old.moment (shown (new_slot value)) }
+        requires room { HasRoom value }
+        ensures entry { OnOk result (entry_at self.new ≡ put key.now (Some (shown (new_slot value))) (entry_at self.old)) }
+        ensures moment { self.new.moment ≡ self.old.moment }
+        ensures prepared { plan_at self.new ≡ plan_at self.old }
+        ensures err { OnErr result (self.new ≡ self.old) }
+    {
+        self.slots.reserve(self.spares.len() + 1)?;
+        insert_slot(&mut self.slots, key, value);
+        Ok(())
+    }
+
+    // Makes a hash with one field.
+    fn make_hash(
+        &mut self,
+        alloc: Global,
+        key: &Brief,
+        field: &Brief,
+        number: i64,
+    ) -> Result<(), AllocError>
+        requires absent { entry_at self.old key.now ≡ None }
+        ensures entry { OnOk result (entry_at self.new ≡ put key.now (Some (entry_with_field field.now number None)) (entry_at self.old)) }
+        ensures moment { self.new.moment ≡ self.old.moment }
+        ensures prepared { plan_at self.new ≡ plan_at self.old }
+        ensures err { OnErr result (self.new ≡ self.old) }
+    {
+        let mut fields = FieldMap::with_room(alloc, 2)?;
+        fields.push(field, number);
+        self.make_key(key, Stored::Hash(fields))
+    }
+
+    // Makes a hash with one field, of the memory that was taken for that.
+    fn use_hash(&mut self, key: &Brief, field: &Brief, number: i64)
+        requires absent { entry_at self.old key.now ≡ None }
+        requires prepared { IsTrue (is_plan_for ValueKind.Hash field.now (plan_at self.old key.now)) }
+        ensures entry { entry_at self.new ≡ put key.now (Some (entry_with_field field.now number None)) (entry_at self.old) }
+        ensures moment { self.new.moment ≡ self.old.moment }
+        ensures prepared { plan_at self.new ≡ put key.now None (plan_at self.old) }
+    {
+        let Spare { hash, .. } = take_spare(&mut self.spares, key);
+        let mut fields = hash;
+        fields.push(field, number);
+        insert_slot(&mut self.slots, key, Stored::Hash(fields));
+    }
+
+    // Makes a counter, of the memory that was taken for that.
+    fn use_counter(&mut self, key: &Brief, number: i64)
+        requires absent { entry_at self.old key.now ≡ None }
+        requires prepared { IsTrue (is_plan_for ValueKind.Counter [] (plan_at self.old key.now)) }
+        ensures entry { entry_at self.new ≡ put key.now (Some (entry_with_number number None)) (entry_at self.old) }
+        ensures moment { self.new.moment ≡ self.old.moment }
+        ensures prepared { plan_at self.new ≡ put key.now None (plan_at self.old) }
+    {
+        drop_spare(&mut self.spares, key);
+        insert_slot(&mut self.slots, key, Stored::Counter(number));
+    }
+
+    // Writes a counter that is there.
+    fn write_counter(&mut self, key: &Brief, number: i64)
+        requires { IsTrue (is_there (counter_at (entry_at self.old key.now))) }
+        ensures entry { entry_at self.new ≡ put key.now (Some (entry_with_number number (entry_at self.old key.now))) (entry_at self.old) }
+        ensures moment { self.new.moment ≡ self.old.moment }
+        ensures prepared { plan_at self.new ≡ plan_at self.old }
+    {
+        let slot = self.slots.get_mut(key).unwrap();
+        slot.value.write_counter(number);
+    }
+
+    // Removes a field that is there, and with the last one the key.
+    fn remove_field(&mut self, key: &Brief, field: &Brief)
+        requires { IsTrue (is_there (field_at field.now (entry_at self.old key.now))) }
+        ensures entry { entry_at self.new ≡ put key.now (entry_without_field field.now (entry_at self.old key.now)) (entry_at self.old) }
+        ensures moment { self.new.moment ≡ self.old.moment }
+        ensures prepared { plan_at self.new ≡ plan_at self.old }
+    {
+        let slot = self.slots.get_mut(key).unwrap();
+        let emptied = slot.value.remove_field(field);
+        remove_if(&mut self.slots, key, emptied);
+    }
+}

@@ -1,0 +1,56 @@
+-- Events as lines spell them, before their limits are looked at: this project's own.
+use Rattle.std.specs.Prelude.{◌≡◌, ℕ, ◌≤◌, List, [], ◌∷◌, codes, decimal, true, Option, Some, None}
+use Rattle.lr_names.specs.Name.{IsName}
+use Rattle.lr_names.specs.Owner.{IsThread}
+use Rattle.lr_objects.specs.declared.function.Function.{Function}
+use Rattle.lr_objects.specs.declared.want.Mode.TheVariants.{Once}
+use Rattle.lr_objects.specs.declared.want.Want.{Want}
+use Rattle.lr_model.specs.declared.event.Event.{Event}
+use Rattle.lr_model.specs.declared.event.Event.TheVariants as events
+use Rattle.lr_model.specs.declared.schedule_line.ScheduleLine.{ScheduleLine}
+use Rattle.lr_model.specs.declared.schedule_line.ScheduleLine.TheVariants as lines
+use Rattle.lr_model.specs.EventText.{event_words, function_word, lease_word, begins, AreNumbers, IsNumber, IsWant, IsEvent}
+use Rattle.lr_model.specs.Within.{IsClient, IsWithin}
+use Rattle.lr_model.specs.Transcript.{event_limit}
+use Rattle.lr_schedule.specs.declared.spelled.Verb.{Verb}
+use Rattle.lr_schedule.specs.declared.spelled.Verb.TheVariants as verbs
+use Rattle.lr_schedule.specs.declared.spelled.Who.{Who}
+use Rattle.lr_schedule.specs.declared.spelled.Spelled.{Spelled}
+use Rattle.lr_schedule.specs.declared.spelled.Spelled.TheVariants.{Begin, Ask, Exec, Take, Tick, Force}
+
+-- the event that is spelled: each request begins with `once`
+abbrev pub event_of : Spelled → Event
+event_of (Begin who want) = events.Begin who.client who.thread Once want
+event_of (Ask who) = events.Ask who.client who.thread
+event_of (Exec who) = events.Exec who.client who.thread
+event_of (Take who) = events.Take who.client who.thread
+event_of (Tick moment) = events.Tick moment
+event_of (Force name) = events.Force name
+
+-- the word that a line begins with
+abbrev pub verb_word : Verb → List ℕ
+verb_word verbs.Begin = codes "begin"
+verb_word verbs.Ask = codes "ask"
+verb_word verbs.Exec = codes "exec"
+verb_word verbs.Take = codes "take"
+verb_word verbs.Tick = codes "tick"
+verb_word verbs.Force = codes "force"
+
+-- a client and a thread within the limits
+abbrev pub AreWithin : Who → Type 0
+AreWithin who = IsClient who.client × IsThread who.thread
+
+-- What the line of an event is, by its number: one too many where it or the event is outside the limits.
+abbrev pub IsLimited : ℕ → Event → ScheduleLine → Type 0
+IsLimited number event (lines.Event e) = (e ≡ event) × IsWithin event × (number ≤ event_limit)
+IsLimited number event lines.Bad = ⊥
+IsLimited number event lines.TooMany = ¬ (IsWithin event × (number ≤ event_limit))
+
+-- the words that say what a request wants
+abbrev pub want_words : Want → List (List ℕ)
+want_words want = codes "once" ∷ function_word want.function ∷ want.name ∷ lease_word want.lease ∷ []
+
+-- these words spell this event
+pub record Spells (words : List (List ℕ)) (spelled : Spelled) : Type 0 where
+  pub text : words ≡ event_words (event_of spelled)
+  pub event : IsEvent (event_of spelled)

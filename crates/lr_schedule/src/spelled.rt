@@ -1,0 +1,131 @@
+ghost use Rattle.std.specs.Prelude.{◌≡◌, ◌↔◌, ◌≤◌, ℕ, IsTrue, IsNone, IfSome};
+ghost use Rattle.lr_names.specs.Owner.{IsThread};
+ghost use Rattle.lr_model.specs.Within.{IsClient, IsWithin};
+ghost use Rattle.lr_schedule.specs.Spelled.{event_of, AreWithin, IsLimited};
+
+use lr_model::{Event, ScheduleLine, ThreadId};
+use lr_names::{MOST_THREADS, Name};
+use lr_objects::{Mode, Want};
+
+/// How many events a schedule has at most.
+pub const MOST_EVENTS: u64 = 1_000_000;
+
+/// The greatest number of a client.
+pub const MOST_CLIENTS: u32 = 64;
+
+/// A client and a thread as a line spells them: they may be outside the limits.
+#[derive(Clone, Copy)]
+pub struct Who {
+    /// The number of the client.
+    pub client: u64,
+    /// The number of the thread.
+    pub thread: u64,
+}
+
+/// What an event does, without whom and what it does it to.
+#[derive(Clone, Copy)]
+pub enum Verb {
+    /// A thread begins a request.
+    Begin,
+    /// The thread's call is sent.
+    Ask,
+    /// The server executes the thread's call.
+    Exec,
+    /// The thread takes the reply.
+    Take,
+    /// The clock shows a moment.
+    Tick,
+    /// An operator takes a lock away.
+    Force,
+}
+
+/// An event as a line spells it.
+#[derive(Clone, Copy)]
+pub enum Spelled {
+    /// A thread begins a request that doesn't wait.
+    Begin(Who, Want),
+    /// The thread's call is sent.
+    Ask(Who),
+    /// The server executes the thread's call.
+    Exec(Who),
+    /// The thread takes the reply.
+    Take(Who),
+    /// The clock shows this moment.
+    Tick(u64),
+    /// An operator takes a lock away.
+    Force(Name),
+}
+
+impl Who {
+    // The thread of the client: `None` exactly outside the limits.
+    fn thread_id(&self) -> Option<ThreadId>
+        ensures some { IfSome result (λ id. (id.client ≡ self.now.client) × (id.thread ≡ self.now.thread)) }
+        ensures within { IfSome result (λ id. IsClient id.client × IsThread id.thread) }
+        ensures none { IsNone result → ¬ AreWithin self.now }
+    {
+        if !is_client(self.client) || !is_thread(self.thread) {
+            return None;
+        }
+        Some(ThreadId {
+            client: self.client as u32,
+            thread: self.thread as u32,
+        })
+    }
+}
+
+fn is_client(number: u64) -> bool
+    ensures { IsTrue result ↔ IsClient number }
+{
+    1 <= number && number <= u64::from(MOST_CLIENTS)
+}
+
+fn is_thread(number: u64) -> bool
+    ensures { IsTrue result ↔ IsThread number }
+{
+    1 <= number && number <= u64::from(MOST_THREADS)
+}
+
+impl Spelled {
+    // The event: `None` exactly where it names a client or a thread outside the limits.
+    fn event(&self) -> Option<Event>
+        ensures some { IfSome result (λ event. event ≡ event_of self.now) }
+        ensures within { IfSome result IsWithin }
+        ensures none { IsNone result → ¬ IsWithin (event_of self.now) }
+    {
+        match self {
+            Spelled::Begin(who, want) => {
+                let ThreadId { client, thread } = who.thread_id()?;
+                Some(Event::Begin {
+                    client,
+                    thread,
+                    mode: Mode::Once,
+                    want: *want,
+                })
+            }
+            Spelled::Ask(who) => {
+                let ThreadId { client, thread } = who.thread_id()?;
+                Some(Event::Ask { client, thread })
+            }
+            Spelled::Exec(who) => {
+                let ThreadId { client, thread } = who.thread_id()?;
+                Some(Event::Exec { client, thread })
+            }
+            Spelled::Take(who) => {
+                let ThreadId { client, thread } = who.thread_id()?;
+                Some(Event::Take { client, thread })
+            }
+            Spelled::Tick(moment) => Some(Event::Tick(*moment)),
+            Spelled::Force(name) => Some(Event::Force(*name)),
+        }
+    }
+
+    /// What a line with this number is that spells the event.
+    pub fn limited(&self, number: u64) -> ScheduleLine
+        ensures { IsLimited number (event_of self.now) result }
+    {
+        match self.event() {
+            Some(event) if number <= MOST_EVENTS => ScheduleLine::Event(event),
+            _ => ScheduleLine::TooMany,
+        }
+    }
+}
