@@ -1,0 +1,40 @@
+ghost use Rattle.std.specs.Prelude.{◌≡◌, [], ◌∷◌, codes};
+ghost use Rattle.lockd.specs.Shown.{IsShown};
+
+use crate::command::{Command, command_of};
+use crate::texts::{HELP, VERSION};
+use lr_outside::{Sink, Source, Status, write_whole};
+use lr_text::Text;
+use lr_world::play_top;
+use std::alloc::Global;
+
+/// Does what these words ask for, reading from the source and writing to the sink.
+pub fn obey<S: Source, K: Sink>(
+    alloc: Global,
+    words: &[Text],
+    source: &mut S,
+    sink: &mut K,
+) -> Status
+    ensures help { words.now ≡ codes "--help" ∷ [] → IsShown (K.held sink.old) (K.held sink.new)
+        (K.faults sink.old) (K.faults sink.new) HELP.now result }
+    ensures version { words.now ≡ codes "--version" ∷ [] → IsShown (K.held sink.old) (K.held sink.new)
+        (K.faults sink.old) (K.faults sink.new) VERSION.now result }
+{
+    match command_of(words) {
+        Command::Help => show(sink, HELP),
+        Command::Version => show(sink, VERSION),
+        Command::Run => play_top(alloc, words, source, sink),
+    }
+}
+
+// Writes the text, and tells whether that went well.
+fn show<K: Sink>(sink: &mut K, text: &[u8]) -> Status
+    ensures { IsShown (K.held sink.old) (K.held sink.new)
+        (K.faults sink.old) (K.faults sink.new) text.now result }
+{
+    if write_whole(sink, text) {
+        Status::Done
+    } else {
+        Status::WriteFault
+    }
+}
