@@ -118,10 +118,10 @@ impl Channel {
         Text::of(alloc, self.written().as_slice())
     }
 
-    fn known(&self)
+    /// What is true of every channel: its name is one, and it has an owner exactly for a fair lock.
+    pub fn known(&self)
         ensures { IsChannel self.now }
     {
-        let _fair = self.kind;
         let _name = self.name.as_slice();
         owner_known(&self.owner);
     }
@@ -151,7 +151,7 @@ fn owner_known(owner: &Option<Owner>)
     ensures { ForSome owner.now IsOwner }
 {
     if let Some(owner) = owner {
-        let _text = owner.brief();
+        owner.known();
     }
 }
 

@@ -65,7 +65,7 @@ impl Owner {
         ensures value { result ≡ self.now.client }
         ensures id { IsId result }
     {
-        id_fits(self.client.as_bytes());
+        self.known();
         self.client
     }
 
@@ -84,8 +84,15 @@ impl Owner {
         ensures owner { IsOwner self.now }
         ensures alone { (other : ThreadOfClient) → IsOwner other → result ≡ owner_text other → self.now ≡ other }
     {
-        id_fits(self.client.as_bytes());
+        self.known();
         self.written()
+    }
+
+    /// What is true of every owner: its id has sixteen bytes, and its thread is in range.
+    pub fn known(&self)
+        ensures { IsOwner self.now }
+    {
+        id_fits(self.client.as_bytes());
     }
 
     fn written(&self) -> Brief
