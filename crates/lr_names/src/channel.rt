@@ -214,6 +214,8 @@ fn read_fair(text: &[u8]) -> Option<Channel>
 }
 
 impl fmt::Display for Channel {
+    ghost output = { λ channel. Some (channel_text channel) };
+
     fn fmt<W: fmt::Write>(&self, f: &mut fmt::Formatter<W>) -> fmt::Result {
         match str::from_utf8(self.brief().as_slice()) {
             Ok(text) => f.write_str(text),

@@ -1,4 +1,4 @@
-ghost use Rattle.std.specs.Prelude.{◌≡◌, ◌≢◌, ◌↔◌, ◌<◌, ◌≤◌, ℕ, List, length, All, decimal, IsTrue, IsErr, IsNone, IfOk, IfSome};
+ghost use Rattle.std.specs.Prelude.{◌≡◌, ◌≢◌, ◌↔◌, ◌<◌, ◌≤◌, ℕ, List, length, All, decimal, Some, IsTrue, IsErr, IsNone, IfOk, IfSome};
 ghost use Rattle.lr_names.specs.Owner.{ThreadOfClient, IsThread, IsId, IsOwner, id_text, owner_text};
 
 use itoa::Buffer;
@@ -171,6 +171,8 @@ fn is_thread(number: u64) -> bool
 }
 
 impl fmt::Display for Owner {
+    ghost output = { λ owner. Some (owner_text owner) };
+
     fn fmt<W: fmt::Write>(&self, f: &mut fmt::Formatter<W>) -> fmt::Result {
         match str::from_utf8(self.brief().as_slice()) {
             Ok(text) => f.write_str(text),
