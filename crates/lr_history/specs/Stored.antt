@@ -17,9 +17,15 @@ entries_of full last = flat_map (λ segment. segment) full ++ last
 abbrev pub spare_of : List Entry → ℕ → ℕ
 spare_of last ready = (SEGMENT_ENTRIES - length last) + SEGMENT_ENTRIES * ready
 
--- every segment before the last one is full, those that stand ready are empty, and the table has room for them
-pub record IsInOrder (full ready : List (List Entry)) (last : List Entry) (fulls readies table : ℕ) : Type 0 where
-  pub filled : All (λ segment. length segment ≡ SEGMENT_ENTRIES) full
+-- a segment has all the entries that it has room for
+abbrev pub IsFull : List Entry → Type 0
+IsFull segment = length segment ≡ SEGMENT_ENTRIES
+
+-- every segment before the last one is full, those that stand ready are empty, and the table has
+-- room for them
+pub record IsInOrder (full : List (List Entry)) (last : List Entry) (ready : List (List Entry))
+    (fulls readies table : ℕ) : Type 0 where
+  pub filled : All IsFull full
   pub fits : length last ≤ SEGMENT_ENTRIES
   pub empty : All (λ segment. segment ≡ []) ready
   pub room : fulls + readies ≤ table

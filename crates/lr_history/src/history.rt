@@ -25,9 +25,13 @@ impl Model for History {
 
     ghost Value = { Stored };
 
-    ghost view = { λ h. record { entries = entries_of h.full.items h.last; spare = spare_of h.last (vec_len h.ready) } };
+    ghost view = { λ h. record {
+      entries = entries_of h.full.items h.last;
+      spare = spare_of h.last (vec_len h.ready);
+    } };
 
-    ghost invariant = { λ h. IsInOrder h.full.items h.ready.items h.last (vec_len h.full) (vec_len h.ready) (vec_capacity h.full) };
+    ghost invariant = { λ h. IsInOrder h.full.items h.last h.ready.items
+        (vec_len h.full) (vec_len h.ready) (vec_capacity h.full) };
 }
 
 impl History {
@@ -43,17 +47,18 @@ impl History {
         })
     }
 
-    /// Appends an entry. `HistoryFull` comes at 2,000,000 entries or more and an act other than `Close`, and
-    /// `NoMemory` only where `spare` is 0. After an error the history is as it was.
+    /// Appends an entry. `HistoryFull` comes at 2,000,000 entries or more and an act other than
+    /// `Close`, and `NoMemory` only where `spare` is 0. After an error the history is as it was.
     pub fn push(&mut self, entry: Entry) -> Result<(), HistoryFault>
         ensures ok { OnOk result (self.new.entries ≡ self.old.entries ++ entry ∷ []) }
-        ensures full { (result ≡ Err HistoryFault.HistoryFull) ↔ IsTrue (is_refused self.old.entries entry.act) }
+        ensures full { (result ≡ Err HistoryFault.HistoryFull)
+            ↔ IsTrue (is_refused self.old.entries entry.act) }
 
         // It takes one from what is spare, and no memory while there is any.
         ensures spare { OnOk result (0 < self.old.spare → self.new.spare + 1 ≡ self.old.spare) }
         ensures no_memory { result ≡ Err HistoryFault.NoMemory → self.old.spare ≡ 0 }
-
-        ensures taken { 0 < self.old.spare → is_refused self.old.entries entry.act ≡ false → IsOk result }
+        ensures succeeds { 0 < self.old.spare
+            → is_refused self.old.entries entry.act ≡ false → IsOk result }
 
         ensures err { OnErr result (self.new ≡ self.old) }
     {
@@ -105,7 +110,8 @@ impl History {
         Ok(found)
     }
 
-    /// Makes `spare` at least `room`. Where there isn't memory for all of it, some of it may be taken.
+    /// Makes `spare` at least `room`. Where there isn't memory for all of it, some of it may be
+    /// taken.
     pub fn reserve(&mut self, room: u64) -> Result<(), AllocError>
         ensures ok { OnOk result (room ≤ self.new.spare) }
         ensures err { OnErr result (self.new.spare < room) }

@@ -1,5 +1,5 @@
-//! The stored history of a server: the entries of its steps, in the order in which they were made. It grows
-//! by whole segments, so that what is stored is never copied.
+//! The stored history of a server: the entries of its steps, in the order in which they were made.
+//! It grows by whole segments, so that what is stored is never copied.
 #![tactic(auto)]
 
 mod entries;

@@ -5,7 +5,8 @@ use lr_model::Entry;
 use std::alloc::{AllocError, Global};
 use std::marker::Model;
 
-/// A part of a history. The memory for all its entries is taken when it is made, so they never move.
+/// A part of a history. The memory for all its entries is taken when it is made, so that they never
+/// move.
 #[derive(Drop)]
 pub struct Segment {
     entries: Vec<Entry>,

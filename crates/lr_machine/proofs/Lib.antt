@@ -3,3 +3,4 @@ pub mod Results
 pub mod Progress
 pub mod Lines
 pub mod Long
+pub mod Ends

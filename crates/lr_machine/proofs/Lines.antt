@@ -54,29 +54,32 @@ module _ (kept kept' all before : List ℕ) (left left' held held' : Option (Lis
   pub on : (line : List ℕ) (kind : ScheduleLine) → WhereKnown (λ b a. IsTurn b a (Line line)) (ahead kept left) (ahead kept' left') → IsLine number line kind → Told world number kind held held' None
       → IsAt kept' left' held' all before (number + 1) (world_after_line world kind)
   on line kind turn is told =
-    let event : Event = told.0.0 in
-    let same : kind ≡ kinds.Event event = told.0.1 in
-    let bytes = known_after (λ b a. IsTurn b a (Line line)) (ahead kept left) (ahead kept' left') at.bytes at.bytes_are turn in
-    let text = appended held held' at.text (text_of world number kind) at.text_is told.1 in
-    record {
-      bytes = bytes.now;
-      bytes_are = bytes.is;
-      text = text.now;
-      text_is = text.is;
-      progress = subst (λ k. Progress all before bytes.now text.now (number + 1) (world_after_line world k)) (sym same)
-        (goes_on all before at.bytes at.text number world at.progress bytes.now line event text.now bytes.holds (subst (IsLine number line) same is)
-          (text.holds ∙ ap (λ k. at.text ++ text_of world number k) same));
-    }
+      let event : Event = told.0.0 in
+      let same : kind ≡ kinds.Event event = told.0.1 in
+      let bytes = known_after (λ b a. IsTurn b a (Line line)) (ahead kept left) (ahead kept' left') at.bytes at.bytes_are turn in
+      let text = appended held held' at.text (text_of world number kind) at.text_is told.1 in
+      record {
+        bytes = bytes.now;
+        bytes_are = bytes.is;
+        text = text.now;
+        text_is = text.is;
+        progress = subst (λ k. Progress all before bytes.now text.now (number + 1) (world_after_line world k)) (sym same)
+            (goes_on all before at.bytes at.text number world at.progress bytes.now line event text.now bytes.holds (subst (IsLine number line) same is)
+            (text.holds ∙ ap (λ k. at.text ++ text_of world number k) same));
+      }
 
   -- all was read
   pub at_end : WhereKnown (λ b a. IsTurn b a End) (ahead kept left) (ahead kept' left') → held' ≡ held → Ends statuses.Done left' held' all before
   at_end turn same =
-    let bytes = known_after (λ b a. IsTurn b a End) (ahead kept left) (ahead kept' left') at.bytes at.bytes_are turn in
-    let parts = split kept' left' bytes.now bytes.is in
-    record {
-      rest = parts.rest; rest_is = parts.is; text = at.text; text_is = same ∙ at.text_is;
-      so = ran_through all before at.bytes at.text number world at.progress parts.rest (nil_behind kept' parts.rest (sym parts.whole ∙ bytes.holds.1)) bytes.holds.0;
-    }
+      let bytes = known_after (λ b a. IsTurn b a End) (ahead kept left) (ahead kept' left') at.bytes at.bytes_are turn in
+      let parts = split kept' left' bytes.now bytes.is in
+      record {
+        rest = parts.rest;
+        rest_is = parts.is;
+        text = at.text;
+        text_is = same ∙ at.text_is;
+        so = ran_through all before at.bytes at.text number world at.progress parts.rest (nil_behind kept' parts.rest (sym parts.whole ∙ bytes.holds.1)) bytes.holds.0;
+      }
     where
       nil_behind : (xs ys : List ℕ) → xs ++ ys ≡ [] → ys ≡ []
       nil_behind [] ys e = e
@@ -85,12 +88,15 @@ module _ (kept kept' all before : List ℕ) (left left' held held' : Option (Lis
   -- a read failed
   pub at_fault : WhereKnown (λ b a. IsTurn b a Fault) (ahead kept left) (ahead kept' left') → held' ≡ held → IsUndecided kept' → Ends statuses.ReadFault left' held' all before
   at_fault turn same undecided =
-    let bytes = known_after (λ b a. IsTurn b a Fault) (ahead kept left) (ahead kept' left') at.bytes at.bytes_are turn in
-    let parts = split kept' left' bytes.now bytes.is in
-    record {
-      rest = parts.rest; rest_is = parts.is; text = at.text; text_is = same ∙ at.text_is;
-      so = broke_off all before at.bytes at.text number world at.progress kept' parts.rest (sym bytes.holds ∙ parts.whole) undecided.whole;
-    }
+      let bytes = known_after (λ b a. IsTurn b a Fault) (ahead kept left) (ahead kept' left') at.bytes at.bytes_are turn in
+      let parts = split kept' left' bytes.now bytes.is in
+      record {
+        rest = parts.rest;
+        rest_is = parts.is;
+        text = at.text;
+        text_is = same ∙ at.text_is;
+        so = broke_off all before at.bytes at.text number world at.progress kept' parts.rest (sym bytes.holds ∙ parts.whole) undecided.whole;
+      }
 
   -- how a line of these bytes ends the run, where the bytes left and the lines later are these
   module _ (line : List ℕ) (later : List (List ℕ)) (rest : List ℕ) (rest_is : left' ≡ Some rest) (first : lines_of at.bytes ≡ line ∷ later) where
@@ -98,33 +104,47 @@ module _ (kept kept' all before : List ℕ) (left left' held held' : Option (Lis
         → ((now : List ℕ) → (front back : List ℕ) → text_of world number kind ≡ front ++ back → now ≡ at.text ++ front → Ends status left' (Some now) all before)
         → AppendsFront held held' (text_of world number kind) → Ends status left' held' all before
     partly kind is taken status f told =
-      let text = appended held held' at.text told.0 at.text_is told.3 in
-      subst (λ h. Ends status left' h all before) (sym text.is) (f text.now told.0 told.1 told.2 text.holds)
+        let text = appended held held' at.text told.0 at.text_is told.3 in
+        subst (λ h. Ends status left' h all before) (sym text.is) (f text.now told.0 told.1 told.2 text.holds)
 
     pub line_ends : (kind : ScheduleLine) → IsLine number line kind → WereRead all rest (at.progress.done ++ line ∷ []) ⊎ EndsRefused (at.progress.done ++ line ∷ []) → (status : Status)
         → Told world number kind held held' (Some status) → Ends status left' held' all before
     line_ends kind is taken (statuses.BadLine n) told =
-      let text = appended held held' at.text (text_of world number kind) at.text_is told.2 in
-      record {
-        rest = rest; rest_is = rest_is; text = text.now; text_is = text.is;
-        so = stopped all before at.bytes at.text number world at.progress line later kinds.Bad n text.now first (subst (IsLine number line) told.0 is) told.1
-          (text.holds ∙ ap (λ k. at.text ++ text_of world number k) told.0);
-      }
+        let text = appended held held' at.text (text_of world number kind) at.text_is told.2 in
+        record {
+          rest = rest;
+          rest_is = rest_is;
+          text = text.now;
+          text_is = text.is;
+          so = stopped all before at.bytes at.text number world at.progress line later kinds.Bad n text.now first (subst (IsLine number line) told.0 is) told.1
+              (text.holds ∙ ap (λ k. at.text ++ text_of world number k) told.0);
+        }
     line_ends kind is taken (statuses.TooMany n) told =
-      let text = appended held held' at.text (text_of world number kind) at.text_is told.2 in
-      record {
-        rest = rest; rest_is = rest_is; text = text.now; text_is = text.is;
-        so = stopped all before at.bytes at.text number world at.progress line later kinds.TooMany n text.now first (subst (IsLine number line) told.0 is) told.1
-          (text.holds ∙ ap (λ k. at.text ++ text_of world number k) told.0);
-      }
+        let text = appended held held' at.text (text_of world number kind) at.text_is told.2 in
+        record {
+          rest = rest;
+          rest_is = rest_is;
+          text = text.now;
+          text_is = text.is;
+          so = stopped all before at.bytes at.text number world at.progress line later kinds.TooMany n text.now first (subst (IsLine number line) told.0 is) told.1
+              (text.holds ∙ ap (λ k. at.text ++ text_of world number k) told.0);
+        }
     line_ends kind is taken statuses.WriteFault told =
-      partly kind is taken statuses.WriteFault (λ now front back cut wrote. record {
-        rest = rest; rest_is = rest_is; text = now; text_is = refl;
-        so = in_part all before at.bytes at.text number world at.progress line later kind rest now front back first is taken cut wrote }) told
+        partly kind is taken statuses.WriteFault (λ now front back cut wrote. record {
+          rest = rest;
+          rest_is = rest_is;
+          text = now;
+          text_is = refl;
+          so = in_part all before at.bytes at.text number world at.progress line later kind rest now front back first is taken cut wrote;
+        }) told
     line_ends kind is taken statuses.NoMemory told =
-      partly kind is taken statuses.NoMemory (λ now front back cut wrote. record {
-        rest = rest; rest_is = rest_is; text = now; text_is = refl;
-        so = in_part all before at.bytes at.text number world at.progress line later kind rest now front back first is taken cut wrote }) told
+        partly kind is taken statuses.NoMemory (λ now front back cut wrote. record {
+          rest = rest;
+          rest_is = rest_is;
+          text = now;
+          text_is = refl;
+          so = in_part all before at.bytes at.text number world at.progress line later kind rest now front back first is taken cut wrote;
+        }) told
     line_ends kind is taken statuses.Done told = absurd told
     line_ends kind is taken statuses.Usage told = absurd told
     line_ends kind is taken statuses.ReadFault told = absurd told
@@ -135,21 +155,21 @@ module _ (kept kept' all before : List ℕ) (left left' held held' : Option (Lis
   pub at_line : (line : List ℕ) (kind : ScheduleLine) (status : Status) → WhereKnown (λ b a. IsTurn b a (Line line)) (ahead kept left) (ahead kept' left') → IsLine number line kind
       → Told world number kind held held' (Some status) → Ends status left' held' all before
   at_line line kind status turn is told =
-    let bytes = known_after (λ b a. IsTurn b a (Line line)) (ahead kept left) (ahead kept' left') at.bytes at.bytes_are turn in
-    let parts = split kept' left' bytes.now bytes.is in
-    line_ends line (lines_of bytes.now) parts.rest parts.is bytes.holds.lines kind is
-    (inl (was_read all before at.bytes at.text number world at.progress bytes.now line kept' parts.rest bytes.holds parts.whole)) status told
+      let bytes = known_after (λ b a. IsTurn b a (Line line)) (ahead kept left) (ahead kept' left') at.bytes at.bytes_are turn in
+      let parts = split kept' left' bytes.now bytes.is in
+      line_ends line (lines_of bytes.now) parts.rest parts.is bytes.holds.lines kind is
+      (inl (was_read all before at.bytes at.text number world at.progress bytes.now line kept' parts.rest bytes.holds parts.whole)) status told
 
   -- a line that is too long ends it
   pub at_long : (status : Status) → WhereKnown (λ b a. IsTurn b a TooLong) (ahead kept left) (ahead kept' left') → ((line : List ℕ) → LINE_BYTES < length line → IsLine number line kinds.Bad)
       → Told world number kinds.Bad held held' (Some status) → Ends status left' held' all before
   at_long status turn bad told =
-    let bytes = known_after (λ b a. IsTurn b a TooLong) (ahead kept left) (ahead kept' left') at.bytes at.bytes_are turn in
-    let parts = split kept' left' bytes.now bytes.is in
-    let long = bytes.holds.0 in
-    let is : IsLine number long.line kinds.Bad = bad long.line long.long in
-    line_ends long.line long.others parts.rest parts.is long.lines kinds.Bad is
-    (inr (refused all before at.bytes at.text number world at.progress long.line (inl is))) status told
+      let bytes = known_after (λ b a. IsTurn b a TooLong) (ahead kept left) (ahead kept' left') at.bytes at.bytes_are turn in
+      let parts = split kept' left' bytes.now bytes.is in
+      let long = bytes.holds.0 in
+      let is : IsLine number long.line kinds.Bad = bad long.line long.long in
+      line_ends long.line long.others parts.rest parts.is long.lines kinds.Bad is
+      (inr (refused all before at.bytes at.text number world at.progress long.line (inl is))) status told
 
 -- nothing was written yet
 pub nothing_told : (held : Option (List ℕ)) (text : List ℕ) → AppendsFront held held text

@@ -72,28 +72,28 @@ module _ (all before left held : List ℕ) (number : ℕ) (world : World) (p : P
   -- nothing is left
   pub ran_through : (rest : List ℕ) → rest ≡ [] → left ≡ [] → RanThrough all rest before held
   ran_through rest none end =
-    let whole : lines_of all ≡ p.done = p.lines ∙ ap (λ (l : List ℕ). p.done ++ lines_of l) end ∙ append-nil p.done in
-    record {
-      read = none;
-      events = subst (AreEvents 1) (sym whole) p.events;
-      text = p.written;
-      gives = subst (λ ls. Gives ls p.written) (append-nil p.done ∙ sym whole) (subst (Gives (p.done ++ [])) (append-nil p.written) (p.tells [] [] refl));
-      written = p.holds;
-    }
+      let whole : lines_of all ≡ p.done = p.lines ∙ ap (λ (l : List ℕ). p.done ++ lines_of l) end ∙ append-nil p.done in
+      record {
+        read = none;
+        events = subst (AreEvents 1) (sym whole) p.events;
+        text = p.written;
+        gives = subst (λ ls. Gives ls p.written) (append-nil p.done ∙ sym whole) (subst (Gives (p.done ++ [])) (append-nil p.written) (p.tells [] [] refl));
+        written = p.holds;
+      }
 
   -- a read failed
   pub broke_off : (kept rest : List ℕ) → left ≡ kept ++ rest → HasNoLineEnd kept → BrokeOff all rest before held
   broke_off kept rest split none = record {
-      lines = p.done;
-      whole = ⊎_elim
+    lines = p.done;
+    whole = ⊎_elim
         (λ e. inl (kept, e ∙ ap (λ (l : List ℕ). ended p.done ++ l) split ∙ sym (append_assoc (ended p.done) kept rest), none))
         (λ e. inr (rest_nil kept rest (sym split ∙ e), sym (p.lines ∙ ap (λ (l : List ℕ). p.done ++ lines_of l) e ∙ append-nil p.done)))
         p.taken;
-      events = p.events;
-      text = p.written;
-      gives = subst (λ ls. Gives ls p.written) (append-nil p.done) (subst (Gives (p.done ++ [])) (append-nil p.written) (p.tells [] [] refl));
-      written = p.holds;
-    }
+    events = p.events;
+    text = p.written;
+    gives = subst (λ ls. Gives ls p.written) (append-nil p.done) (subst (Gives (p.done ++ [])) (append-nil p.written) (p.tells [] [] refl));
+    written = p.holds;
+  }
     where
       rest_nil : (xs ys : List ℕ) → xs ++ ys ≡ [] → ys ≡ []
       rest_nil [] ys e = e
@@ -108,8 +108,9 @@ module _ (all before left held : List ℕ) (number : ℕ) (world : World) (p : P
     where
       more : all ≡ ended p.done ++ left → left ≡ line ++ 10 ∷ after → all ≡ ended (p.done ++ line ∷ []) ++ after
       more e cut =
-        e ∙ ap (λ (l : List ℕ). ended p.done ++ l) (cut ∙ sym (append_assoc line (10 ∷ []) after) ∙ ap (λ (l : List ℕ). l ++ after) (sym (ended-one line)))
-        ∙ sym (append_assoc (ended p.done) (ended (line ∷ [])) after) ∙ ap (λ (l : List ℕ). l ++ after) (sym (ended-append p.done (line ∷ [])))
+          e ∙ ap (λ (l : List ℕ). ended p.done ++ l) (cut ∙ sym (append_assoc line (10 ∷ []) after) ∙ ap (λ (l : List ℕ). l ++ after) (sym (ended-one line)))
+          ∙ sym (append_assoc (ended p.done) (ended (line ∷ [])) after) ∙ ap (λ (l : List ℕ). l ++ after) (sym (ended-append p.done (line ∷ [])))
+
       none : left ≡ [] → ⊥
       none e = let h : [] ≡ line ∷ lines_of after = sym (ap lines_of e) ∙ is.lines in cc
 
@@ -117,20 +118,20 @@ module _ (all before left held : List ℕ) (number : ℕ) (world : World) (p : P
   pub goes_on : (after line : List ℕ) (event : Event) (now : List ℕ) → IsFirstLine left after line → IsLine number line (kinds.Event event) → now ≡ held ++ text_of world number (kinds.Event event)
       → Progress all before after now (number + 1) (next world event)
   goes_on after line event now first is wrote =
-    let shown = text_of world number (kinds.Event event) in
-    record {
-      done = p.done ++ line ∷ [];
-      written = p.written ++ shown;
-      holds = wrote ∙ ap (λ (l : List ℕ). l ++ shown) p.holds ∙ append_assoc before p.written shown;
-      lines = p.lines ∙ ap (λ (l : List (List ℕ)). p.done ++ l) first.lines ∙ sym (append_assoc p.done (line ∷ []) (lines_of after));
-      count = simp length-append (omega (arith, p.count));
-      events = AreEvents-push 1 number p.done line event p.count p.events is;
-      tells = λ ls text gives.
-        subst (λ ls'. Transcript first_world 1 ls' ((p.written ++ shown) ++ text)) (sym (append_assoc p.done (line ∷ []) ls))
-        (subst (Transcript first_world 1 (p.done ++ line ∷ ls)) (sym (append_assoc p.written shown text))
-          (p.tells (line ∷ ls) (shown ++ text) (kinds.Event event, is, (text, refl, gives))));
-      taken = taken_more after line first;
-    }
+      let shown = text_of world number (kinds.Event event) in
+      record {
+        done = p.done ++ line ∷ [];
+        written = p.written ++ shown;
+        holds = wrote ∙ ap (λ (l : List ℕ). l ++ shown) p.holds ∙ append_assoc before p.written shown;
+        lines = p.lines ∙ ap (λ (l : List (List ℕ)). p.done ++ l) first.lines ∙ sym (append_assoc p.done (line ∷ []) (lines_of after));
+        count = simp length-append (omega (arith, p.count));
+        events = AreEvents-push 1 number p.done line event p.count p.events is;
+        tells = λ ls text gives.
+            subst (λ ls'. Transcript first_world 1 ls' ((p.written ++ shown) ++ text)) (sym (append_assoc p.done (line ∷ []) ls))
+            (subst (Transcript first_world 1 (p.done ++ line ∷ ls)) (sym (append_assoc p.written shown text))
+            (p.tells (line ∷ ls) (shown ++ text) (kinds.Event event, is, (text, refl, gives))));
+        taken = taken_more after line first;
+      }
 
   -- the line that was taken was read
   pub was_read : (after line kept rest : List ℕ) → IsFirstLine left after line → after ≡ kept ++ rest → WereRead all rest (p.done ++ line ∷ [])

@@ -112,3 +112,15 @@ abbrev pub WhereTold : Option (List ℕ) → Option (List ℕ) → Option (List 
 WhereTold left_old left_new held_old held_new P =
     (all before : List ℕ) → left_old ≡ Some all → held_old ≡ Some before
     → (rest held : List ℕ) × (left_new ≡ Some rest) × (held_new ≡ Some held) × P all rest before held
+
+-- the ends of a run of `play`
+abbrev pub IsEndOfPlay : Status → Type 0
+IsEndOfPlay (Wrong number) = ⊥
+IsEndOfPlay Closed = ⊥
+IsEndOfPlay Done = Unit {0}
+IsEndOfPlay Usage = Unit {0}
+IsEndOfPlay ReadFault = Unit {0}
+IsEndOfPlay WriteFault = Unit {0}
+IsEndOfPlay (BadLine number) = Unit {0}
+IsEndOfPlay NoMemory = Unit {0}
+IsEndOfPlay (TooMany number) = Unit {0}

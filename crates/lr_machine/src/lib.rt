@@ -2,11 +2,12 @@
 #![tactic(auto)]
 
 mod machine;
-mod play;
+mod schedule;
 mod server;
 mod steps;
 mod waiters;
 
 pub use machine::{EVENT_LIMIT, LAST_MOMENT, Machine};
+pub use schedule::{play, run};
 pub use server::Server;
 pub use waiters::Waiters;

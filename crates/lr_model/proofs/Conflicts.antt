@@ -1,5 +1,5 @@
 -- No two owners hold one lock at once in a legal history.
-use Rattle.std.proofs.Common.{◌≡◌, ℕ, ◌<◌, ◌≤◌, List, [], ◌∷◌, Bool, true, false, ◌&&◌, nat_lt, Option, Some, None, if◌then◌else◌, refl, sym, ap, ◌∙◌, subst, arith}
+use Rattle.std.proofs.Common.{◌≡◌, ℕ, ◌<◌, ◌≤◌, List, [], ◌∷◌, Bool, true, false, Option, Some, if◌then◌else◌, refl, sym, ap, ◌∙◌, subst, arith}
 use Rattle.std.specs.Str.{bytes_eq}
 use Rattle.std.proofs.lemmas.Bool.{false≢true}
 use Rattle.std.proofs.lemmas.Slice.Eq.{bytes_eq-Decides}
@@ -12,9 +12,8 @@ use Rattle.lr_model.specs.declared.entry.Act.{Act}
 use Rattle.lr_model.specs.declared.entry.Act.TheVariants.{Call, Subscribe, Unsubscribe, Open, Close, Drain}
 use Rattle.lr_model.specs.declared.entry.Entry.{Entry}
 use Rattle.lr_model.specs.declared.hold.Hold.{Hold}
-use Rattle.lr_model.specs.Moment.{is_live}
 use Rattle.lr_model.specs.Mutex.{live_hold}
-use Rattle.lr_model.specs.Answer.{Objects, name_of, outcome_of, objects_after, reply_of}
+use Rattle.lr_model.specs.Answer.{Objects, name_of, outcome_of, reply_of}
 use Rattle.lr_model.specs.History.{State, step, after, started, IsLegal, objects_by}
 use Rattle.lr_model.specs.Tenure.{Tenure, is_current, no_tenure, tenure_by_call, tenure_by_act, tenure_after, holds_at, NoConflict}
 use Rattle.lr_model.proofs.Owners.{same_owner_equiv}

@@ -1,30 +1,25 @@
 -- Every schedule goes well.
-use Rattle.std.proofs.Common.{◌≡◌, ℕ, ◌≤◌, ◌<◌, ◌*◌, ◌-◌, ◌+◌, List, [], ◌∷◌, ◌++◌, Bool, true, false, nat_le, Option, Some, None, if◌then◌else◌, IsTrue, refl, sym, ap, ◌∙◌, subst, arith, append_assoc, append-nil}
+use Rattle.std.proofs.Common.{◌≡◌, ℕ, ◌≤◌, ◌*◌, ◌-◌, List, [], ◌∷◌, ◌++◌, Bool, true, false, nat_le, Option, Some, None, if◌then◌else◌, refl, sym, ap, ◌∙◌, subst, arith, append_assoc, append-nil}
 use Rattle.std.specs.List.{AllByRecursion}
 use Rattle.std.proofs.lemmas.Bool.{false≢true, le-leb}
-use Rattle.std.proofs.lemmas.Bool.Decides.{nat_tests}
-use Rattle.lr_names.specs.Channel.{ChannelOf}
 use Rattle.lr_names.specs.declared.post.Post.{Post}
 use Rattle.lr_objects.specs.declared.op.Op.{Op}
 use Rattle.lr_model.specs.declared.entry.Act.{Act}
-use Rattle.lr_model.specs.declared.entry.Act.TheVariants.{Call}
 use Rattle.lr_model.specs.declared.entry.Entry.{Entry}
 use Rattle.lr_model.specs.declared.event.Event.{Event}
 use Rattle.lr_model.specs.declared.event.Event.TheVariants.{Begin, Ask, Exec, Take, Tick, Force}
 use Rattle.lr_model.specs.declared.waiter.Asking.{Asking}
 use Rattle.lr_model.specs.declared.waiter.ThreadId.{ThreadId}
 use Rattle.lr_model.specs.declared.waiter.Waiter.{Waiter}
-use Rattle.lr_model.specs.declared.waiter.Stage.{Stage}
 use Rattle.lr_objects.specs.declared.op.Op.TheVariants.{LockForce}
 use Rattle.lr_objects.specs.declared.reply.Reply.{Reply}
-use Rattle.lr_model.specs.Moment.{later}
-use Rattle.lr_model.specs.Answer.{post_of, reply_of}
+use Rattle.lr_model.specs.Answer.{post_of}
 use Rattle.lr_model.specs.Board.{Board, Connection, opened_by, closed, posted, told}
-use Rattle.lr_model.specs.History.{State, step, after, CanCall, MayFollow, IsLegal}
+use Rattle.lr_model.specs.History.{State, step, after, CanCall, MayFollow}
 use Rattle.lr_model.specs.Within.{IsWithin, IsClient}
-use Rattle.lr_model.specs.World.{World, first_state, first_world, state_of, thread_of, call_entry, with_entry, with_waiter, next_row, next_exec, next_take, next, world_after, begin_row, ask_row, asked_of, waiting_reply, signed, acts_by, acts_of, act_of_exec, acts_made, caller_of, command_connection, answered_row}
+use Rattle.lr_model.specs.World.{World, first_state, first_world, thread_of, call_entry, next_row, next_exec, next_take, next, world_after, begin_row, ask_row, asked_of, waiting_reply, signed, acts_by, acts_of, act_of_exec, acts_made, caller_of, command_connection}
 use Rattle.lr_model.specs.Sound.{IsInOrder, IsSound, GoesWell}
-use Rattle.lr_model.proofs.Histories.{after-push, IsLegal-push, signed-push, acts_by-append}
+use Rattle.lr_model.proofs.Histories.{after-push, IsLegal-push, signed-push}
 use Rattle.lr_model.proofs.Conflicts.{no_conflict}
 
 -- a connection of a server that has just started
@@ -35,14 +30,14 @@ first_connection b = if b then opened_by 0 else closed
 unreached : (post : Post) (connection : Connection) → connection.channels ≡ [] → told post connection ≡ connection
 unreached post connection e = rw e refl
 
-no_channels : (conn : ℕ) → (first_state.board conn).channels ≡ []
+pub no_channels : (conn : ℕ) → (first_state.board conn).channels ≡ []
 no_channels conn = by_case (nat_le conn 128)
   where
     by_case : (b : Bool) → (first_connection b).channels ≡ []
     by_case true = refl
     by_case false = refl
 
-posted_quiet : (post : Option Post) (board : Board) → ((conn : ℕ) → board conn ≡ first_state.board conn) → (conn : ℕ) → posted post board conn ≡ first_state.board conn
+pub posted_quiet : (post : Option Post) (board : Board) → ((conn : ℕ) → board conn ≡ first_state.board conn) → (conn : ℕ) → posted post board conn ≡ first_state.board conn
 posted_quiet None board quiet conn = quiet conn
 posted_quiet (Some post) board quiet conn =
     let none : (board conn).channels ≡ [] = ap (λ (c : Connection). c.channels) (quiet conn) ∙ no_channels conn in

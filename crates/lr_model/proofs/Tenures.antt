@@ -1,19 +1,17 @@
 -- A tenure that is current is a hold that the lock has.
-use Rattle.std.proofs.Common.{◌≡◌, ◌≢◌, ℕ, ◌<◌, ◌≤◌, ◌+◌, ◌-◌, List, [], ◌∷◌, Bool, true, false, ◌&&◌, nat_lt, Option, Some, None, refl, sym, ap, ◌∙◌, subst, arith, rules, cond, if◌then◌else◌, ◌==◌}
+use Rattle.std.proofs.Common.{◌≡◌, ℕ, ◌+◌, ◌-◌, List, Bool, true, false, ◌&&◌, Option, Some, None, refl, sym, ap, ◌∙◌, subst, if◌then◌else◌, ◌==◌}
 use Rattle.std.specs.Str.{bytes_eq}
-use Rattle.std.proofs.lemmas.Bool.Decides.{nat_tests}
-use Rattle.std.proofs.lemmas.Grind.{common_steps}
 use Rattle.lr_names.specs.Owner.{ThreadOfClient, same_owner}
 use Rattle.lr_objects.specs.declared.op.Op.{Op}
 use Rattle.lr_objects.specs.declared.op.Op.TheVariants.{LockTry, LockUnlock, LockRenew, LockForce}
 use Rattle.lr_model.specs.declared.hold.Hold.{Hold}
-use Rattle.lr_model.specs.Moment.{is_live, is_lease}
-use Rattle.lr_model.specs.Mutex.{Outcome, unchanged, held_so, freed, live_hold, try_lock, unlock, renew_lock, force_lock, with_lease}
+use Rattle.lr_model.specs.Moment.{is_lease}
+use Rattle.lr_model.specs.Mutex.{Outcome, unchanged, held_so, freed, try_lock, unlock, renew_lock, force_lock, with_lease}
 use Rattle.lr_model.specs.Answer.{mutex_outcome, name_of}
 use Rattle.lr_model.proofs.Owners.{same_owner_equiv}
 use Rattle.std.proofs.lemmas.Bool.{false≢true}
 use Rattle.lr_objects.specs.declared.reply.Reply.{Reply}
-use Rattle.lr_objects.specs.declared.reply.Reply.TheVariants.{Granted, Busy, Kept, Freed, NotHeld, Renewed, Lost, TooDeep, BadLease}
+use Rattle.lr_objects.specs.declared.reply.Reply.TheVariants.{Granted, Busy, Kept, NotHeld, Renewed, Lost, TooDeep, BadLease}
 use Rattle.lr_model.specs.Tenure.{Tenure, is_current, tenure_by_try, tenure_by_unlock, tenure_by_renew, tenure_by_force, tenure_by_call}
 
 -- the lock is held by this owner, for as long as the tenure lasts

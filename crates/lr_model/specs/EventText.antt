@@ -1,5 +1,5 @@
 -- How the schedule language writes an event: this project's own, with one spelling each.
-use Rattle.std.specs.Prelude.{◌≡◌, ◌≢◌, ℕ, ◌<◌, ◌≤◌, ◌^◌, List, [], ◌∷◌, length, replicate, codes, decimal, Bool, true, false, IsTrue}
+use Rattle.std.specs.Prelude.{◌≡◌, ℕ, ◌<◌, ◌≤◌, ◌^◌, List, [], ◌∷◌, replicate, codes, decimal, Bool, true, false}
 use Rattle.lr_text.specs.Words.{joined}
 use Rattle.lr_names.specs.Name.{IsName}
 use Rattle.lr_objects.specs.declared.function.Function.{Function}

@@ -1,14 +1,11 @@
 -- The state of the server after each entry of its history, and which histories are legal.
-use Rattle.std.specs.Prelude.{◌≡◌, ◌≢◌, ℕ, ◌<◌, ◌≤◌, nat_le, List, [], ◌∷◌, take, length, IsTrue, Bool, true, false, Option, Some, None, if◌then◌else◌, unwrap_or, slice_get}
-use Rattle.lr_names.specs.declared.post.Post.{Post}
-use Rattle.lr_names.specs.declared.post.Push.{Push}
-use Rattle.lr_objects.specs.declared.op.Op.{Op}
+use Rattle.std.specs.Prelude.{◌≡◌, ◌≢◌, ℕ, ◌≤◌, nat_le, List, [], ◌∷◌, IsTrue, false, Option, Some, None, if◌then◌else◌, unwrap_or, slice_get}
 use Rattle.lr_objects.specs.declared.reply.Reply.{Reply}
 use Rattle.lr_model.specs.declared.entry.Act.{Act}
 use Rattle.lr_model.specs.declared.entry.Act.TheVariants.{Call, Subscribe, Unsubscribe, Open, Close, Drain}
 use Rattle.lr_model.specs.declared.entry.Entry.{Entry}
 use Rattle.lr_model.specs.Answer.{Objects, no_objects, reply_of, objects_after, post_of}
-use Rattle.lr_model.specs.Board.{Board, Connection, is_open, has_room, closed, opened_by, posted, subscribed, unsubscribed, drained, with_connection, free_numbers, reached_by, dropped_by}
+use Rattle.lr_model.specs.Board.{Board, Connection, is_open, has_room, closed, opened_by, posted, subscribed, unsubscribed, drained, with_connection, free_numbers}
 
 -- what a server is: a moment, the objects and the board
 pub record State : Type 0 where

@@ -1,8 +1,8 @@
 -- What holds after every event of every schedule.
-use Rattle.std.specs.Prelude.{◌≡◌, ℕ, ◌≤◌, List, ◌++◌}
+use Rattle.std.specs.Prelude.{◌≡◌, ℕ, ◌≤◌, List}
 use Rattle.lr_model.specs.declared.entry.Entry.{Entry}
 use Rattle.lr_model.specs.declared.event.Event.{Event}
-use Rattle.lr_model.specs.History.{State, IsLegal, after}
+use Rattle.lr_model.specs.History.{IsLegal, after}
 use Rattle.lr_model.specs.Tenure.{NoConflict}
 use Rattle.lr_model.specs.World.{World, first_state, state_of, signed, acts_by, acts_made, world_after, first_world}
 

@@ -8,7 +8,6 @@ use Rattle.lr_model.specs.declared.schedule_line.ScheduleLine.TheVariants as lin
 use Rattle.lr_model.specs.declared.shown.Found.{Found}
 use Rattle.lr_model.specs.declared.shown.Found.TheVariants as found
 use Rattle.lr_model.specs.declared.shown.Reached.{Reached}
-use Rattle.lr_model.specs.declared.shown.Replied.{Replied}
 use Rattle.lr_model.specs.declared.shown.Shown.{Shown}
 use Rattle.lr_model.specs.declared.shown.Shown.TheVariants.{Fresh, Asked, Replied as replied, Done, Moment, No}
 use Rattle.lr_model.specs.EventText.{event_text, IsEvent}

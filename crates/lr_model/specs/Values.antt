@@ -1,9 +1,6 @@
 -- What contracts see of the plain data that holds calls and replies.
 use Rattle.std.specs.Prelude.{ℕ, Option}
-use Rattle.lr_objects.specs.declared.op.Op.{Op}
 use Rattle.lr_objects.specs.declared.reply.Reply.{Reply}
-use Rattle.lr_objects.specs.declared.want.Mode.{Mode}
-use Rattle.lr_objects.specs.declared.want.Want.{Want}
 use Rattle.lr_model.specs.declared.entry.Act.{Act}
 use Rattle.lr_model.specs.declared.shown.Reached.{Reached}
 

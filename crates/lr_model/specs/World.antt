@@ -1,5 +1,5 @@
 -- The step table: what a schedule's event shows, and what it changes. Two functions by cases.
-use Rattle.std.specs.Prelude.{◌≡◌, ℕ, ◌+◌, ◌-◌, ◌*◌, ◌==◌, ◌≤◌, List, [], ◌∷◌, ◌++◌, Bool, ◌&&◌, false, Option, Some, None, if◌then◌else◌}
+use Rattle.std.specs.Prelude.{ℕ, ◌+◌, ◌-◌, ◌*◌, ◌==◌, List, [], ◌∷◌, ◌++◌, Bool, ◌&&◌, false, Option, Some, None, if◌then◌else◌}
 use Rattle.std.specs.Int.{w128, to_be_bytes}
 use Rattle.std.specs.Option.{option_map}
 use Rattle.lr_names.specs.Owner.{ThreadOfClient}
@@ -11,7 +11,7 @@ use Rattle.lr_objects.specs.declared.op.Op.TheVariants.{LockForce}
 use Rattle.lr_objects.specs.declared.want.Want.{Want}
 use Rattle.lr_objects.specs.declared.want.Mode.{Mode}
 use Rattle.lr_model.specs.declared.entry.Act.{Act}
-use Rattle.lr_model.specs.declared.entry.Act.TheVariants.{Call, Subscribe, Unsubscribe, Open, Close, Drain}
+use Rattle.lr_model.specs.declared.entry.Act.TheVariants.{Call}
 use Rattle.lr_model.specs.declared.entry.Entry.{Entry}
 use Rattle.lr_model.specs.declared.event.Event.{Event}
 use Rattle.lr_model.specs.declared.event.Event.TheVariants as events

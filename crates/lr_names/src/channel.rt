@@ -118,10 +118,10 @@ impl Channel {
         Text::of(alloc, self.written().as_slice())
     }
 
-    fn known(&self)
+    /// What is true of every channel: its name is one, and it has an owner exactly for a fair lock.
+    pub fn known(&self)
         ensures { IsChannel self.now }
     {
-        let _fair = self.kind;
         let _name = self.name.as_slice();
         owner_known(&self.owner);
     }
@@ -151,7 +151,7 @@ fn owner_known(owner: &Option<Owner>)
     ensures { ForSome owner.now IsOwner }
 {
     if let Some(owner) = owner {
-        let _text = owner.brief();
+        owner.known();
     }
 }
 
@@ -214,6 +214,8 @@ fn read_fair(text: &[u8]) -> Option<Channel>
 }
 
 impl fmt::Display for Channel {
+    ghost output = { λ channel. Some (channel_text channel) };
+
     fn fmt<W: fmt::Write>(&self, f: &mut fmt::Formatter<W>) -> fmt::Result {
         match str::from_utf8(self.brief().as_slice()) {
             Ok(text) => f.write_str(text),

@@ -1,4 +1,4 @@
-ghost use Rattle.std.specs.Prelude.{◌≡◌, ◌↔◌, IsTrue, IsNone, IsOk, IfOk, IfSome};
+ghost use Rattle.std.specs.Prelude.{◌≡◌, ◌↔◌, Some, IsTrue, IsNone, IsOk, IfOk, IfSome};
 ghost use Rattle.std.specs.List.{list_all};
 ghost use Rattle.lr_names.specs.Name.{is_name_byte, IsName};
 
@@ -82,6 +82,8 @@ fn is_name_byte(byte: u8) -> bool
 }
 
 impl fmt::Display for Name {
+    ghost output = { λ name. Some name };
+
     fn fmt<W: fmt::Write>(&self, f: &mut fmt::Formatter<W>) -> fmt::Result {
         match str::from_utf8(self.as_slice()) {
             Ok(text) => f.write_str(text),

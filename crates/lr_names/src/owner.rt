@@ -1,4 +1,4 @@
-ghost use Rattle.std.specs.Prelude.{◌≡◌, ◌≢◌, ◌↔◌, ◌<◌, ◌≤◌, ℕ, List, length, All, decimal, IsTrue, IsErr, IsNone, IfOk, IfSome};
+ghost use Rattle.std.specs.Prelude.{◌≡◌, ◌≢◌, ◌↔◌, ◌<◌, ◌≤◌, ℕ, List, length, All, decimal, Some, IsTrue, IsErr, IsNone, IfOk, IfSome};
 ghost use Rattle.lr_names.specs.Owner.{ThreadOfClient, IsThread, IsId, IsOwner, id_text, owner_text};
 
 use itoa::Buffer;
@@ -65,7 +65,7 @@ impl Owner {
         ensures value { result ≡ self.now.client }
         ensures id { IsId result }
     {
-        id_fits(self.client.as_bytes());
+        self.known();
         self.client
     }
 
@@ -84,8 +84,15 @@ impl Owner {
         ensures owner { IsOwner self.now }
         ensures alone { (other : ThreadOfClient) → IsOwner other → result ≡ owner_text other → self.now ≡ other }
     {
-        id_fits(self.client.as_bytes());
+        self.known();
         self.written()
+    }
+
+    /// What is true of every owner: its id has sixteen bytes, and its thread is in range.
+    pub fn known(&self)
+        ensures { IsOwner self.now }
+    {
+        id_fits(self.client.as_bytes());
     }
 
     fn written(&self) -> Brief
@@ -164,6 +171,8 @@ fn is_thread(number: u64) -> bool
 }
 
 impl fmt::Display for Owner {
+    ghost output = { λ owner. Some (owner_text owner) };
+
     fn fmt<W: fmt::Write>(&self, f: &mut fmt::Formatter<W>) -> fmt::Result {
         match str::from_utf8(self.brief().as_slice()) {
             Ok(text) => f.write_str(text),

@@ -2,7 +2,7 @@ use crate::channel::Channel;
 use crate::kind::Wakes;
 
 /// A message to the subscribers of a channel, sent where an object may have come free.
-#[derive(Clone, Copy, PartialEq, Eq)]
+#[derive(Clone, Copy, Debug, PartialEq, Eq)]
 pub struct Post {
     /// Where it is sent.
     pub channel: Channel,
@@ -11,7 +11,7 @@ pub struct Post {
 }
 
 /// What a subscribed connection is sent.
-#[derive(Clone, Copy, PartialEq, Eq)]
+#[derive(Clone, Copy, Debug, PartialEq, Eq)]
 pub enum Push {
     /// A subscription was acknowledged, with the number of the connection's channels afterwards.
     Subscribed(Channel, u32),

@@ -1,5 +1,5 @@
 -- The lines of events are one to one: words give an event back.
-use Rattle.std.proofs.Common.{◌≡◌, ℕ, ◌<◌, ◌≤◌, ◌^◌, ◌==◌, Bool, true, false, if◌then◌else◌, List, [], ◌∷◌, ◌++◌, IsTrue, length, replicate, codes, decimal, refl, sym, ap, subst, ◌∙◌, arith}
+use Rattle.std.proofs.Common.{◌≡◌, ℕ, ◌<◌, ◌^◌, true, if◌then◌else◌, List, [], ◌∷◌, IsTrue, length, replicate, codes, decimal, refl, sym, ap, subst, ◌∙◌, arith}
 use Rattle.std.specs.List.{list_all}
 use Rattle.std.specs.Str.{bytes_eq}
 use Rattle.std.specs.Str.Parse.{AllDigits, digits_value}
@@ -9,20 +9,18 @@ use Rattle.std.proofs.lemmas.Str.Parse.{IsNumeralModel, numerals_by_value, tells
 use Rattle.lr_text.specs.Words.{lacks, words_of, joined, are_words}
 use Rattle.lr_text.proofs.NumberLaws.{decimal-is_word}
 use Rattle.lr_text.proofs.WordLaws.{lacks-cons, words_of-joined}
-use Rattle.lr_names.specs.Name.{is_name_byte, IsName}
+use Rattle.lr_names.specs.Name.{is_name_byte}
 use Rattle.lr_objects.specs.declared.function.Function.{Function}
 use Rattle.lr_objects.specs.declared.function.Function.TheVariants.{LockTry, LockUnlock, LockRenew, LockForce}
 use Rattle.lr_objects.specs.declared.want.Lease.{Lease}
 use Rattle.lr_objects.specs.declared.want.Lease.TheVariants as leases
-use Rattle.lr_objects.specs.declared.want.Mode.{Mode}
 use Rattle.lr_objects.specs.declared.want.Mode.TheVariants as modes
 use Rattle.lr_objects.specs.declared.want.Want.{Want}
 use Rattle.lr_model.specs.declared.event.Event.{Event}
 use Rattle.lr_model.specs.declared.event.Event.TheVariants.{Begin, Ask, Exec, Take, Tick, Force}
-use Rattle.lr_model.specs.EventText.{event_words, event_text, mode_word, function_word, lease_word, begins, IsWant, IsEvent}
+use Rattle.lr_model.specs.EventText.{event_words, event_text, mode_word, function_word, lease_word, begins, IsEvent}
 use Rattle.lr_model.specs.declared.schedule_line.ScheduleLine.{ScheduleLine}
 use Rattle.lr_model.specs.declared.schedule_line.ScheduleLine.TheVariants as lines
-use Rattle.lr_model.specs.Moment.{last_moment}
 use Rattle.lr_model.specs.Transcript.{IsLine}
 use Rattle.lr_model.specs.Within.{IsWithin}
 use Rattle.lr_schedule.specs.declared.spelled.Spelled.{Spelled}

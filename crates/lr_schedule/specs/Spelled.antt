@@ -1,15 +1,13 @@
 -- Events as lines spell them, before their limits are looked at: this project's own.
-use Rattle.std.specs.Prelude.{◌≡◌, ℕ, ◌≤◌, List, [], ◌∷◌, codes, decimal, true, Option, Some, None}
-use Rattle.lr_names.specs.Name.{IsName}
+use Rattle.std.specs.Prelude.{◌≡◌, ℕ, ◌≤◌, List, [], ◌∷◌, codes}
 use Rattle.lr_names.specs.Owner.{IsThread}
-use Rattle.lr_objects.specs.declared.function.Function.{Function}
 use Rattle.lr_objects.specs.declared.want.Mode.TheVariants.{Once}
 use Rattle.lr_objects.specs.declared.want.Want.{Want}
 use Rattle.lr_model.specs.declared.event.Event.{Event}
 use Rattle.lr_model.specs.declared.event.Event.TheVariants as events
 use Rattle.lr_model.specs.declared.schedule_line.ScheduleLine.{ScheduleLine}
 use Rattle.lr_model.specs.declared.schedule_line.ScheduleLine.TheVariants as lines
-use Rattle.lr_model.specs.EventText.{event_words, function_word, lease_word, begins, AreNumbers, IsNumber, IsWant, IsEvent}
+use Rattle.lr_model.specs.EventText.{event_words, function_word, lease_word, IsEvent}
 use Rattle.lr_model.specs.Within.{IsClient, IsWithin}
 use Rattle.lr_model.specs.Transcript.{event_limit}
 use Rattle.lr_schedule.specs.declared.spelled.Verb.{Verb}

@@ -32,6 +32,7 @@ pub fn read_line(number: u64, line: &[u8]) -> ScheduleLine
     }
 }
 
+// The event that a line spells, within its limits or not.
 fn read_spelled(line: &[u8]) -> Option<Spelled>
     ensures text { IfSome result (λ s. line.now ≡ event_text (event_of s)) }
     ensures event { IfSome result (λ s. IsEvent (event_of s)) }
@@ -48,9 +49,9 @@ fn read_words(words: &mut Words<'_>) -> Option<Spelled>
 {
     match read_verb(words.next()?)? {
         Verb::Begin => read_begin(words),
-        Verb::Ask => Some(Spelled::Ask(read_only_who(words)?)),
-        Verb::Exec => Some(Spelled::Exec(read_only_who(words)?)),
-        Verb::Take => Some(Spelled::Take(read_only_who(words)?)),
+        Verb::Ask => Some(Spelled::Ask(read_who_alone(words)?)),
+        Verb::Exec => Some(Spelled::Exec(read_who_alone(words)?)),
+        Verb::Take => Some(Spelled::Take(read_who_alone(words)?)),
         Verb::Tick => Some(Spelled::Tick(read_moment(words)?)),
         Verb::Force => Some(Spelled::Force(read_name(words)?)),
     }
@@ -71,6 +72,7 @@ fn read_verb(word: &[u8]) -> Option<Verb>
     }
 }
 
+// What stands behind `begin`.
 fn read_begin(words: &mut Words<'_>) -> Option<Spelled>
     ensures some { IfSome result (Spells (codes "begin" ∷ words.old)) }
     ensures none { IsNone result → (s : Spelled) → ¬ Spells (codes "begin" ∷ words.old) s }
@@ -80,7 +82,8 @@ fn read_begin(words: &mut Words<'_>) -> Option<Spelled>
     Some(Spelled::Begin(who, want))
 }
 
-fn read_only_who(words: &mut Words<'_>) -> Option<Who>
+// A client and a thread, which no other words follow.
+fn read_who_alone(words: &mut Words<'_>) -> Option<Who>
     ensures some { IfSome result (λ who. words.old ≡ decimal who.client ∷ decimal who.thread ∷ []) }
     ensures numbers { IfSome result (λ who. IsNumber who.client × IsNumber who.thread) }
     ensures none { IsNone result → (client thread : ℕ) → IsNumber client → IsNumber thread
@@ -141,6 +144,7 @@ fn read_function(word: &[u8]) -> Option<Function>
     }
 }
 
+// A moment that a clock can show, alone.
 fn read_moment(words: &mut Words<'_>) -> Option<u64>
     ensures some { IfSome result (λ moment. words.old ≡ decimal moment ∷ []) }
     ensures last { IfSome result (λ moment. moment ≤ last_moment) }
@@ -153,6 +157,7 @@ fn read_moment(words: &mut Words<'_>) -> Option<u64>
     Some(moment)
 }
 
+// A name, alone.
 fn read_name(words: &mut Words<'_>) -> Option<Name>
     ensures some { IfSome result (λ name. words.old ≡ name ∷ []) }
     ensures name { IfSome result IsName }

@@ -5,4 +5,5 @@ use Rattle.lr_history.proofs.history.History.len.Goals as goal
 pub returns-clause-value : goal.returns-clause-value
 returns-clause-value c =
     let full = c.self.inside.full in
-    rw (← c.self.view_is) (omega (arith, length-entries_of full.items c.self.inside.last c.self.invariant.filled, full.ok.0))
+    let stored = length-entries_of full.items c.self.inside.last c.self.invariant.filled in
+    rw (← c.self.view_is) (omega (arith, stored, full.ok.0))

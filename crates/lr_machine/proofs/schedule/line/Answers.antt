@@ -10,7 +10,7 @@ use Rattle.lr_machine.specs.Progress.{IsAt, Ends, Told}
 use Rattle.lr_machine.proofs.Lines.{on, at_end, at_fault, at_line, at_long, cause_of}
 use Rattle.lr_machine.proofs.Long.{long_is_bad}
 use Rattle.lr_machine.proofs.Results.{when_none, when_some, at_none, at_false}
-use Rattle.lr_machine.proofs.play.line.Goals as goal
+use Rattle.lr_machine.proofs.schedule.line.Goals as goal
 
 pub returns-in-Event-clause-goes_on : goal.returns-in-Event-clause-goes_on
 returns-in-Event-clause-goes_on g c =
@@ -21,11 +21,11 @@ returns-in-Event-clause-goes_on g c =
     let turn = at_false c.args.reader.now.stuck c.requires.free c.in-Line.ensures.turn in
     let is : IsLine number c.in-Line.line (kinds.Event c.in-Event.event) = subst (λ (l : List ℕ). IsLine number l (kinds.Event c.in-Event.event)) c.as_slice.ensures.value c.in-Event.ensures in
     when_none c.show.result (λ e all before at.
-      let told = subst (Told world number (kinds.Event c.in-Event.event) (held c.args.sink.now) (held c.show.new.sink)) e c.show.ensures.told in
-      let after : world_of c.show.new.machine ≡ next world c.in-Event.event = at_none c.show.result e c.show.ensures.next in
-      subst (λ w. IsAt c.next.new.self.kept (left c.next.new.source) (held c.show.new.sink) all before (number + 1) w) (sym after)
-      (on c.args.reader.now.kept c.next.new.self.kept all before (left c.args.source.now) (left c.next.new.source) (held c.args.sink.now) (held c.show.new.sink) number world at
-        c.in-Line.line (kinds.Event c.in-Event.event) turn is told))
+    let told = subst (Told world number (kinds.Event c.in-Event.event) (held c.args.sink.now) (held c.show.new.sink)) e c.show.ensures.told in
+    let after : world_of c.show.new.machine ≡ next world c.in-Event.event = at_none c.show.result e c.show.ensures.next in
+    subst (λ w. IsAt c.next.new.self.kept (left c.next.new.source) (held c.show.new.sink) all before (number + 1) w) (sym after)
+    (on c.args.reader.now.kept c.next.new.self.kept all before (left c.args.source.now) (left c.next.new.source) (held c.args.sink.now) (held c.show.new.sink) number world at
+    c.in-Line.line (kinds.Event c.in-Event.event) turn is told))
 
 pub returns-in-Event-clause-ends : goal.returns-in-Event-clause-ends
 returns-in-Event-clause-ends g c =
@@ -36,8 +36,8 @@ returns-in-Event-clause-ends g c =
     let turn = at_false c.args.reader.now.stuck c.requires.free c.in-Line.ensures.turn in
     let is : IsLine number c.in-Line.line (kinds.Event c.in-Event.event) = subst (λ (l : List ℕ). IsLine number l (kinds.Event c.in-Event.event)) c.as_slice.ensures.value c.in-Event.ensures in
     when_some c.show.result _ (λ status e all before at.
-      at_line c.args.reader.now.kept c.next.new.self.kept all before (left c.args.source.now) (left c.next.new.source) (held c.args.sink.now) (held c.show.new.sink) number world at
-      c.in-Line.line (kinds.Event c.in-Event.event) status turn is (subst (Told world number (kinds.Event c.in-Event.event) (held c.args.sink.now) (held c.show.new.sink)) e c.show.ensures.told))
+    at_line c.args.reader.now.kept c.next.new.self.kept all before (left c.args.source.now) (left c.next.new.source) (held c.args.sink.now) (held c.show.new.sink) number world at
+    c.in-Line.line (kinds.Event c.in-Event.event) status turn is (subst (Told world number (kinds.Event c.in-Event.event) (held c.args.sink.now) (held c.show.new.sink)) e c.show.ensures.told))
 
 pub returns-in-Bad-clause-ends : goal.returns-in-Bad-clause-ends
 returns-in-Bad-clause-ends g c = λ all before at.

@@ -1,11 +1,15 @@
-ghost use Rattle.std.specs.Prelude.{◌≡◌, ◌<◌, ◌≤◌, ◌+◌, List, ℕ, [], IfSome, IfNone, Some, None, false};
+ghost use Rattle.std.specs.Prelude.{◌≡◌, ◌⊎◌, ◌↔◌, ◌<◌, ◌≤◌, ◌+◌, List, ℕ, [], IfSome, IfNone, IfOk, IsTrue, Some, None, false};
+ghost use Rattle.std.specs.List.{AllByRecursion};
+ghost use Rattle.lr_outside.specs.Lines.{lines_of};
+ghost use Rattle.lr_model.specs.declared.event.Event.{Event};
+ghost use Rattle.lr_model.specs.Sound.{GoesWell};
 ghost use Rattle.lr_outside.specs.Turns.{Rose};
 ghost use Rattle.lr_model.specs.declared.schedule_line.ScheduleLine.TheVariants as kinds;
-ghost use Rattle.lr_model.specs.Transcript.{event_limit};
+ghost use Rattle.lr_model.specs.Transcript.{event_limit, AreEvents};
 ghost use Rattle.lr_model.specs.Within.{IsWithin};
 ghost use Rattle.lr_model.specs.World.{World, next};
 ghost use Rattle.lr_machine.specs.Machine.{world_of};
-ghost use Rattle.lr_machine.specs.Play.{WhereTold, EndsSo, HasCause};
+ghost use Rattle.lr_machine.specs.Play.{WhereTold, EndsSo, HasCause, IsPlay, IsEndOfPlay, RanThrough, StoppedAt, BrokeOff, WrittenInPart};
 ghost use Rattle.lr_machine.specs.Progress.{IsAt, Ends, Told};
 
 use crate::machine::Machine;
@@ -14,7 +18,7 @@ use lr_model::{Event, ScheduleLine};
 use lr_outside::{LineReader, LineTurn, Sink, Source, Status, write_whole};
 use lr_schedule::{read_line, write_bad, write_shown, write_too_many};
 use lr_text::Text;
-use std::alloc::Global;
+use std::alloc::{AllocError, Global};
 
 // Applies an event and writes what is shown of it. `None` where the run goes on.
 #[tactic(auto, using(crate::proofs::Lines::nothing_told))]
@@ -140,4 +144,71 @@ pub fn run<S: Server + Drop, R: Source, K: Sink>(
         }
         number += 1;
     }
+}
+
+/// Runs a schedule where the words are the one word `play`, on a machine that has applied no event.
+///
+/// What is left in the source and held by the sink is told by clauses for each source and sink that tell their
+/// bytes. Want of memory may end a run at any line.
+pub fn play<S: Server + Drop, R: Source, K: Sink>(
+    alloc: Global,
+    words: &[Text],
+    start: Result<Machine<S>, AllocError>,
+    source: &mut R,
+    sink: &mut K,
+) -> Status
+    requires { IfOk start (λ machine. machine ≡ record { entries = []; moment = 0; requests = []; applied = 0 }) }
+
+    // Other words are a usage fault: nothing is read or written.
+    ensures usage { (result ≡ Status.Usage) ↔ (IsPlay words.now → ⊥) }
+    ensures untouched { result ≡ Status.Usage → (source.new ≡ source.old) × (sink.new ≡ sink.old) }
+
+    // What is known at each end.
+    ensures done { result ≡ Status.Done → WhereTold (R.left source.old) (R.left source.new) (K.held sink.old) (K.held sink.new) RanThrough }
+    ensures bad_line { (number : ℕ) → result ≡ Status.BadLine number
+        → WhereTold (R.left source.old) (R.left source.new) (K.held sink.old) (K.held sink.new) (λ all rest before held. StoppedAt number kinds.Bad all before held) }
+    ensures too_many { (number : ℕ) → result ≡ Status.TooMany number
+        → WhereTold (R.left source.old) (R.left source.new) (K.held sink.old) (K.held sink.new) (λ all rest before held. StoppedAt number kinds.TooMany all before held) }
+    ensures read_fault { result ≡ Status.ReadFault → WhereTold (R.left source.old) (R.left source.new) (K.held sink.old) (K.held sink.new) BrokeOff }
+    ensures write_fault { result ≡ Status.WriteFault → WhereTold (R.left source.old) (R.left source.new) (K.held sink.old) (K.held sink.new) WrittenInPart }
+    ensures no_memory { result ≡ Status.NoMemory → WhereTold (R.left source.old) (R.left source.new) (K.held sink.old) (K.held sink.new) WrittenInPart }
+    ensures no_other { IsEndOfPlay result }
+
+    // Faults have their causes.
+    ensures read_cause { result ≡ Status.ReadFault → Rose (R.faults source.old) (R.faults source.new) }
+    ensures write_cause { result ≡ Status.WriteFault → Rose (K.faults sink.old) (K.faults sink.new) }
+
+    // A schedule whose lines are all events runs through, unless a count of faults rises or memory runs out.
+    ensures complete { (all before : List ℕ) → IsPlay words.now → R.left source.old ≡ Some all → K.held sink.old ≡ Some before → AreEvents 1 (lines_of all)
+        → (Rose (R.faults source.old) (R.faults source.new) → ⊥) → (Rose (K.faults sink.old) (K.faults sink.new) → ⊥)
+        → (result ≡ Status.Done) ⊎ (result ≡ Status.NoMemory) }
+
+    // After each event of each schedule the history is legal, holds each caller's calls once and in order, and no
+    // two owners hold one lock at once.
+    ensures every_event { (events : List Event) → AllByRecursion IsWithin events → GoesWell events }
+{
+    if !is_play(words) {
+        return Status::Usage;
+    }
+    match start {
+        Ok(mut machine) => run(alloc, &mut machine, source, sink),
+        Err(_) => Status::NoMemory,
+    }
+}
+
+// Whether the words are the one word of the command.
+fn is_play(words: &[Text]) -> bool
+    ensures { IsTrue result ↔ IsPlay words.now }
+{
+    match words {
+        [word] => is_word(word, b"play"),
+        _ => false,
+    }
+}
+
+// Whether a word is this one.
+fn is_word(word: &Text, expected: &[u8]) -> bool
+    ensures { IsTrue result ↔ (word.now ≡ expected.now) }
+{
+    word.as_slice() == expected
 }

@@ -4,7 +4,7 @@ use Rattle.lr_model.specs.World.{World, first_world}
 use Rattle.lr_machine.specs.Machine.{Known, world_of}
 use Rattle.lr_machine.specs.Progress.{IsAt, Progress}
 use Rattle.lr_machine.proofs.Progress.{start, nothing_written}
-use Rattle.lr_machine.proofs.play.run.Goals as goal
+use Rattle.lr_machine.proofs.schedule.run.Goals as goal
 
 pub returns-in_default-clause-ends : goal.returns-in_default-clause-ends
 returns-in_default-clause-ends g c = λ all before left held. (all, before, left, held, nothing_written all before)

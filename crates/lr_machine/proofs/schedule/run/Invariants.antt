@@ -2,7 +2,7 @@ use Rattle.std.proofs.Common.{◌≡◌, ℕ, ◌+◌, ◌-◌, ◌≤◌, List,
 use Rattle.lr_model.specs.Transcript.{event_limit}
 use Rattle.lr_machine.specs.Machine.{world_of}
 use Rattle.lr_machine.specs.Progress.{IsAt}
-use Rattle.lr_machine.proofs.play.run.Given as goal
+use Rattle.lr_machine.proofs.schedule.run.Given as goal
 
 -- the run is at its line, where source and sink tell their bytes
 abbrev pub invariant-loop-status : goal.invariant-loop-status

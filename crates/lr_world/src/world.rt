@@ -1,0 +1,72 @@
+ghost use Rattle.std.specs.Prelude.{◌≡◌, ◌<◌, ◌≤◌, ◌+◌, [], ◌++◌, length, IfOk, OnOk, OnErr};
+ghost use Rattle.lr_model.specs.Within.{IsWithin};
+ghost use Rattle.lr_model.specs.Sound.{IsSound};
+ghost use Rattle.lr_model.specs.Transcript.{event_limit};
+ghost use Rattle.lr_model.specs.World.{shown, next, signed, acts_of};
+ghost use Rattle.lr_machine.specs.Machine.{world_of};
+
+use lr_machine::Machine;
+use lr_model::{Entry, Event, Shown};
+use lr_plain::{PlainServer, plain_world};
+use std::alloc::{AllocError, Global};
+use std::marker::Model;
+
+/// A server with the connections 0 to 128 open and 64 clients with 256 threads each, as one machine that takes
+/// one event at a time. Client c has the id whose 128-bit number is c, and sends its calls on connection
+/// 2c - 1.
+#[derive(Drop)]
+pub struct World {
+    machine: Machine<PlainServer>,
+}
+
+impl Model for World {
+    ghost use Rattle.lr_machine.specs.Machine.{Known};
+
+    ghost Value = { Known };
+
+    ghost view = { λ w. w.machine };
+}
+
+impl World {
+    /// The world at moment 0, before the first event.
+    pub fn new(alloc: Global) -> Result<World, AllocError>
+        ensures { IfOk result (λ w. w ≡ record { entries = []; moment = 0; requests = []; applied = 0 }) }
+    {
+        Ok(World {
+            machine: plain_world(alloc),
+        })
+    }
+
+    /// Applies an event: what is shown and the world afterwards are those of the step table. An event whose
+    /// case doesn't apply shows so and changes nothing. An `Err` changes nothing.
+    pub fn apply(&mut self, event: &Event) -> Result<Shown, AllocError>
+        requires within { IsWithin event.now }
+        requires room { self.old.applied < event_limit }
+        ensures shown { IfOk result (λ s. s ≡ shown (world_of self.old) event.now) }
+        ensures next { OnOk result (world_of self.new ≡ next (world_of self.old) event.now) }
+        ensures count { OnOk result (self.new.applied ≡ self.old.applied + 1) }
+        ensures err { OnErr result (self.new ≡ self.old) }
+
+        // The history stays legal, and no two owners hold one lock at once.
+        ensures sound { IsSound (world_of self.new) }
+        // It has what the event made the server do, for whom, and nothing else.
+        ensures once { OnOk result (signed self.new.entries ≡ signed self.old.entries ++ acts_of (world_of self.old) event.now) }
+    {
+        self.machine.apply(event)
+    }
+
+    /// What the server has done, in order.
+    pub fn history(&self) -> &[Entry]
+        ensures { result.now ≡ self.now.entries }
+    {
+        self.machine.server().entries()
+    }
+
+    // The machine alone.
+    pub fn into_machine(self) -> Machine<PlainServer>
+        ensures { result ≡ self }
+    {
+        let World { machine } = self;
+        machine
+    }
+}
