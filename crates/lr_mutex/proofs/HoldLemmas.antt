@@ -158,19 +158,21 @@ module _ (moment : ℕ) (owner : ThreadOfClient) (old new : List ℕ → Option 
       subst (IsStep old old key (Busy millis)) (sym (try_lock-other moment owner lease hold (at.within hold refl) none))
       (subst (λ n. IsStep old old key (Busy millis) (unchanged (Busy n) (Some hold))) (left hold at) (unchanged_step moment old key (Busy millis) (Some hold) at))
 
-  -- what `add` promises of a lock that nobody else holds
-  pub record IsAdded (by : ℤ) (lease : ℕ) (text : List ℕ) : Type 0 where
-    pub made : old key ≡ None → new ≡ put key (Some (one_field text by (moment + lease))) old
-    pub added : (count : ℤ) (expiry : ℕ) → old key ≡ Some (one_field text count expiry) → IsTrue (is_i64 (count +ℤ by)) → new ≡ put key (Some (one_field text (count +ℤ by) (moment + lease))) old
+  -- what `add` promises: of a lock that nobody holds, and of one that the owner holds
+  abbrev pub IsMade : ℤ → ℕ → List ℕ → Type 0
+  IsMade by lease text = old key ≡ None → new ≡ put key (Some (one_field text by (moment + lease))) old
+
+  abbrev pub IsAdded : ℤ → ℕ → List ℕ → Type 0
+  IsAdded by lease text = (count : ℤ) (expiry : ℕ) → old key ≡ Some (one_field text count expiry) → IsTrue (is_i64 (count +ℤ by)) → new ≡ put key (Some (one_field text (count +ℤ by) (moment + lease))) old
 
   -- the entry of the owner's hold
   own_entry : (hold : Hold) → hold.owner ≡ owner → Some (lock_entry hold) ≡ Some (one_field (owner_text owner) (pos hold.count) hold.deadline)
   own_entry hold mine = ap (λ o. Some (one_field (owner_text o) (pos hold.count) hold.deadline)) mine
 
   granted_by_text : (lease : ℕ) (held : Option Hold) → IsHeld moment (old key) held → count_of owner held < 1000000 → (count_of owner held ≡ 0 → old key ≡ None)
-      → IsAdded (pos 1) lease (owner_text owner) → IsStep old new key Granted (try_lock moment owner lease held)
-  granted_by_text lease None at few free adds = record { answer = refl; entries = adds.made at.stands }
-  granted_by_text lease (Some hold) at few free adds = by (same_owner hold.owner owner) refl
+      → IsMade (pos 1) lease (owner_text owner) → IsAdded (pos 1) lease (owner_text owner) → IsStep old new key Granted (try_lock moment owner lease held)
+  granted_by_text lease None at few free made added = record { answer = refl; entries = made at.stands }
+  granted_by_text lease (Some hold) at few free made added = by (same_owner hold.owner owner) refl
     where
       fits : (n : ℕ) → n < 1000000 → IsTrue (is_i64 (pos n +ℤ pos 1))
       fits n small = grind (arith, ints)
@@ -181,13 +183,13 @@ module _ (moment : ℕ) (owner : ThreadOfClient) (old new : List ℕ → Option 
           let small : hold.count < 1000000 = omega arith in
           subst (IsStep old new key Granted) (sym (try_lock-more moment owner lease hold mine small)) (record {
             answer = refl;
-            entries = adds.added (pos hold.count) hold.deadline (at.stands ∙ own_entry hold (same_owners hold.owner owner mine)) (fits hold.count small);
+            entries = added (pos hold.count) hold.deadline (at.stands ∙ own_entry hold (same_owners hold.owner owner mine)) (fits hold.count small);
           })
       by false other = absurd (cc (sym (free (ap (λ b. cond b hold.count 0) other)) ∙ at.stands))
 
   pub granted_step : (lease : ℕ) (text : List ℕ) (held : Option Hold) → text ≡ owner_text owner → IsHeld moment (old key) held → count_of owner held < 1000000 → (count_of owner held ≡ 0 → old key ≡ None)
-      → IsAdded (pos 1) lease text → IsStep old new key Granted (try_lock moment owner lease held)
-  granted_step lease text held is at few free adds = granted_by_text lease held at few free (subst (IsAdded (pos 1) lease) is adds)
+      → IsMade (pos 1) lease text → IsAdded (pos 1) lease text → IsStep old new key Granted (try_lock moment owner lease held)
+  granted_step lease text held is at few free made added = granted_by_text lease held at few free (subst (IsMade (pos 1) lease) is made) (subst (IsAdded (pos 1) lease) is added)
 
   -- nothing to give back, or to renew
   pub not_held_step : (rest : ℕ) (held : Option Hold) → IsHeld moment (old key) held → count_of owner held ≡ 0 → IsStep old old key NotHeld (unlock moment owner rest held)
@@ -198,8 +200,8 @@ module _ (moment : ℕ) (owner : ThreadOfClient) (old new : List ℕ → Option 
 
   kept_by_text : (rest : ℕ) (held : Option Hold) → IsHeld moment (old key) held → 1 < count_of owner held
       → IsAdded (negsuc 0) rest (owner_text owner) → IsStep old new key Kept (unlock moment owner rest held)
-  kept_by_text rest None at many adds = absurd (omega arith)
-  kept_by_text rest (Some hold) at many adds = by (same_owner hold.owner owner) refl
+  kept_by_text rest None at many added = absurd (omega arith)
+  kept_by_text rest (Some hold) at many added = by (same_owner hold.owner owner) refl
     where
       one_less : (n : ℕ) → 1 < n → pos n +ℤ negsuc 0 ≡ pos (n - 1)
       one_less n many = omega (arith, ints)
@@ -214,11 +216,11 @@ module _ (moment : ℕ) (owner : ThreadOfClient) (old new : List ℕ → Option 
           subst (IsStep old new key Kept) (sym (unlock-more moment owner rest hold mine several)) (record {
             answer = refl;
             entries =
-                adds.added (pos hold.count) hold.deadline (at.stands ∙ own_entry hold (same_owners hold.owner owner mine)) (fits hold.count several (at.within hold refl).most)
+                added (pos hold.count) hold.deadline (at.stands ∙ own_entry hold (same_owners hold.owner owner mine)) (fits hold.count several (at.within hold refl).most)
                 ∙ ap (λ n. put key (Some (one_field (owner_text owner) n (moment + rest))) old) (one_less hold.count several);
           })
       by false other = let none = ap (λ b. cond b hold.count 0) other in absurd (omega arith)
 
   pub kept_step : (rest : ℕ) (text : List ℕ) (held : Option Hold) → text ≡ owner_text owner → IsHeld moment (old key) held → 1 < count_of owner held
       → IsAdded (negsuc 0) rest text → IsStep old new key Kept (unlock moment owner rest held)
-  kept_step rest text held is at many adds = kept_by_text rest held at many (subst (IsAdded (negsuc 0) rest) is adds)
+  kept_step rest text held is at many added = kept_by_text rest held at many (subst (IsAdded (negsuc 0) rest) is added)

@@ -1,7 +1,8 @@
 -- What a function does to the key of one lock.
 use Rattle.std.specs.Prelude.{◌≡◌, ◌<◌, ℕ, List, Bool, true, false, ◌&&◌, is_none, Option, Some, None, option_map, if◌then◌else◌}
 use Rattle.std.specs.Option.{ForSome}
-use Rattle.lr_names.specs.Owner.{ThreadOfClient, same_owner}
+use Rattle.lr_names.specs.Name.{IsName}
+use Rattle.lr_names.specs.Owner.{ThreadOfClient, IsOwner, same_owner}
 use Rattle.lr_keys.specs.KeySpace.{Entry}
 use Rattle.lr_keys.specs.Table.{put}
 use Rattle.lr_objects.specs.declared.op.Op.{Op}
@@ -47,3 +48,10 @@ is_freed Renewed = false
 is_freed Lost = false
 is_freed TooDeep = false
 is_freed BadLease = false
+
+-- a call as the program makes it: its name and its owner are a name and an owner
+abbrev pub IsCall : Op → Type 0
+IsCall (LockTry name owner lease) = IsName name × IsOwner owner
+IsCall (LockUnlock name owner rest) = IsName name × IsOwner owner
+IsCall (LockRenew name owner lease) = IsName name × IsOwner owner
+IsCall (LockForce name) = IsName name × Unit {0}

@@ -52,7 +52,13 @@ fn add(alloc: Global, keys: &mut KeySpace, key: &Brief, owner: &Brief, by: i64, 
 }
 
 // Takes the lock, or takes it once more, for this lease from now on.
-pub(crate) fn take(alloc: Global, keys: &mut KeySpace, key: &Brief, owner: &Owner, lease: u64) -> Reply
+pub(crate) fn take(
+    alloc: Global,
+    keys: &mut KeySpace,
+    key: &Brief,
+    owner: &Owner,
+    lease: u64,
+) -> Reply
     requires lease { IsTrue (is_lease lease) }
     requires memory { entry_at keys.old key.now ≡ None → IsPrepared keys.old key.now ValueKind.Hash (owner_text owner.now) }
     ensures step { (held : Option Hold) → IsHeld keys.old.moment (entry_at keys.old key.now) held
@@ -71,7 +77,13 @@ pub(crate) fn take(alloc: Global, keys: &mut KeySpace, key: &Brief, owner: &Owne
 }
 
 // Gives one hold back. A hold that stays lasts for the rest lease from now on.
-pub(crate) fn give_back(alloc: Global, keys: &mut KeySpace, key: &Brief, owner: &Owner, rest: u64) -> Reply
+pub(crate) fn give_back(
+    alloc: Global,
+    keys: &mut KeySpace,
+    key: &Brief,
+    owner: &Owner,
+    rest: u64,
+) -> Reply
     requires lease { IsTrue (is_lease rest) }
     ensures step { (held : Option Hold) → IsHeld keys.old.moment (entry_at keys.old key.now) held
         → IsStep (entry_at keys.old) (entry_at keys.new) key.now result (unlock keys.old.moment owner.now rest held) }

@@ -16,4 +16,4 @@ returns-clause-step c = λ held at.
     let owner = c.args.owner.now in
     kept_step _ owner (entry_at c.args.keys.now) (entry_at c.add.new.keys) _ _ c.brief.result held c.brief.ensures.text at
     (count-several _ (count_of owner held) (c.holds-count.ensures held at) (count_of-few owner held at.within) c.if-count-eq0.false c.if-count-eq1.false)
-    (record { made = ?; added = c.add.ensures.added })
+    c.add.ensures.added

@@ -34,10 +34,11 @@ returns-clause-step c = λ held at.
     let few = count_of-few owner held at.within in
     let count = c.holds-count.ensures held at in
     let free : count_of owner held ≡ 0 → keys key ≡ None = λ none. elim c.else-count-eq0.branch [
-        else-count-eq0-via-then-count-eq0+else-exists w ↦ none-from_absent (keys key) (sym w.exists.ensures ∙ w.if-exists.false)
-        | else-count-eq0-via-else-count-eq0 w ↦ absurd (w.if-count-eq0.false (count-none _ (count_of owner held) count few none))
+      | else-count-eq0-via-then-count-eq0+else-exists w ↦ none-from_absent (keys key) (sym w.exists.ensures ∙ w.if-exists.false)
+      | else-count-eq0-via-else-count-eq0 w ↦ absurd (w.if-count-eq0.false (count-none _ (count_of owner held) count few none))
     ] in
     granted_step _ owner keys (entry_at c.add.new.keys) key _ c.brief.result held c.brief.ensures.text at
     (count-fewer _ (count_of owner held) count few c.if-count-ge-MOST_HOLDS.false)
     free
-    (record { made = λ absent. c.add.ensures.made (subst (λ text. IsPrepared c.args.keys.now key Hash text) (sym c.brief.ensures.text) (c.requires.memory absent)) absent; added = c.add.ensures.added })
+    (λ absent. c.add.ensures.made (subst (λ text. IsPrepared c.args.keys.now key Hash text) (sym c.brief.ensures.text) (c.requires.memory absent)) absent)
+    c.add.ensures.added
