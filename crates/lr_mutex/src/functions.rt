@@ -168,9 +168,11 @@ fn owned(name: &Name, owner: &Owner)
     let _thread = owner.thread();
 }
 
-fn known(op: &Op)
-    ensures { IsCall op.now }
+fn known(keys: &KeySpace, op: &Op)
+    ensures call { IsCall op.now }
+    ensures moment { keys.now.moment ≤ last_moment }
 {
+    let _moment = keys.moment();
     match op {
         Op::LockTry { name, owner, .. }
         | Op::LockUnlock { name, owner, .. }
@@ -179,7 +181,12 @@ fn known(op: &Op)
     }
 }
 
-/// Runs a function of a reentrant lock.
+/// Runs a function of a reentrant lock, as one step at a moment in milliseconds, or at that of the keys where that is later.
+///
+/// Where the keys stand for some objects, the reply and the message are what the function gives for these, and afterwards the
+/// keys stand for what it makes of them. Memory that was prepared is given up.
+///
+/// Only a try that makes the lock's key takes memory. After an error nothing has changed: the moment and the keys are as before.
 pub fn run(
     alloc: Global,
     keys: &mut KeySpace,
@@ -199,7 +206,7 @@ pub fn run(
         makes_lock op.now (live_entry m (entry_at keys.old (key_text Part.Lock (name_of op.now)))) ≡ false → IsOk result }
     ensures err { OnErr result (keys.new ≡ keys.old) }
 {
-    known(op);
+    known(keys, op);
     let reply = answer(alloc, keys, moment, op)?;
     keys.settle();
     let post = post_after(op, &reply);
