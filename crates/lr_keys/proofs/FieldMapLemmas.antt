@@ -1,6 +1,6 @@
-use Rattle.std.proofs.Common.{◌≡◌, ◌≤◌, ◌<◌, ◌+◌, suc, length, arith, ℕ, Bool, true, false, cond, List, [], ◌∷◌, ℤ, Option, Some, None, IsSome, refl, ap, is_some, true≢false, sym, ◌∙◌}
+use Rattle.std.proofs.Common.{◌≡◌, ◌≤◌, ◌<◌, ◌+◌, suc, length, arith, ℕ, Bool, true, false, cond, List, [], ◌∷◌, ℤ, Some, IsSome, refl, ap, true≢false, sym}
 use Rattle.std.specs.Str.{bytes_eq}
-use Rattle.std.specs.Map.{lookup, set_value}
+use Rattle.std.specs.Map.{set_value}
 use Rattle.lr_keys.specs.FieldMap.{field_value, with_field, without_field}
 
 -- a field that is there takes the number in its place

@@ -6,7 +6,7 @@ use Rattle.std.specs.Option.{ForSome, option_map, option_copied_mut}
 use Rattle.std.specs.Str.{bytes_eq}
 use Rattle.std.specs.Map.{lookup, set_value}
 use Rattle.indexmap.specs.IndexMap.{IndexMap, get, spare, index_map_len, WritesThrough}
-use Rattle.lr_keys.specs.KeySpace.{Content, Fields, Number, Keys, Entry, Plan, content_with_field, content_without_field, entry_with_value, entry_without_field, is_empty_hash, is_plan_for, is_same_kind, is_there, field_at, counter_at, field_of, hash_in, raised, raised_in, IsSound, IsLive, entry_at, plan_at}
+use Rattle.lr_keys.specs.KeySpace.{Content, Fields, Number, Keys, Entry, content_with_field, content_without_field, entry_with_value, entry_without_field, is_empty_hash, is_plan_for, is_same_kind, is_there, field_at, counter_at, field_of, hash_in, raised, raised_in, IsSound, IsLive, entry_at, plan_at}
 use Rattle.lr_keys.specs.Kept.{SlotKept, new_slot, shown, shown_value, shown_entries, shown_plans, plan_of, HasRoom, IsSpareFor, shown_keys, IsReady, IsRoomFor, IsSoundSlot, IsKept}
 use Rattle.lr_keys.specs.declared.TheConstants.{MAX_MOMENT, MAX_LEASE, MAX_MEMBERS}
 use Rattle.lr_keys.specs.declared.value_kind.ValueKind.{ValueKind}
@@ -18,7 +18,6 @@ use Rattle.lr_keys.proofs.TableLaws.{at_each-put, put-same}
 use Rattle.lr_keys.specs.declared.slot.Slot.{Slot}
 use Rattle.lr_keys.specs.declared.slot.Spare.{Spare}
 use Rattle.lr_keys.specs.declared.slot.Stored.{Stored}
-use Rattle.lr_keys.specs.declared.slot.Stored.TheVariants.{Hash, Counter}
 use Rattle.lr_keys.specs.FieldMap.{field_value, with_field, without_field}
 use Rattle.lr_keys.proofs.FieldMapLemmas.{length-without_field, length-with_field_some, length-with_field_there, length-with_field_le}
 use Rattle.lr_keys.specs.declared.key_space.KeySpace.TheInside.{Inside}

@@ -1,5 +1,5 @@
 -- What is left of the slots as the moment goes on.
-use Rattle.std.proofs.Common.{◌≡◌, ◌≤◌, ◌<◌, ◌+◌, ℕ, Bool, true, false, cond, List, [], ◌∷◌, Option, Some, None, if◌then◌else◌, min, nat_lt, fold, refl, ap, sym, subst, ◌∙◌, arith, true≢false}
+use Rattle.std.proofs.Common.{◌≡◌, ◌≤◌, ◌<◌, ℕ, Bool, true, false, cond, List, [], ◌∷◌, Option, Some, None, if◌then◌else◌, fold, refl, ap, sym, subst, ◌∙◌, arith}
 use Rattle.std.proofs.Math.Nat.{le_trans}
 use Rattle.std.proofs.lemmas.Bool.Decides.{nat_tests}
 use Rattle.std.proofs.lemmas.Map.Entries.{option_filter}
@@ -11,8 +11,8 @@ use Rattle.lr_keys.specs.declared.TheConstants.{MAX_MOMENT}
 use Rattle.lr_keys.specs.declared.key_space.KeySpace.TheInside.{Inside}
 use Rattle.lr_keys.specs.declared.slot.Slot.{Slot}
 use Rattle.lr_keys.specs.declared.value_kind.ValueKind.{ValueKind}
-use Rattle.lr_keys.specs.KeySpace.{Entry, Keys, IsLive, entry_at, is_ahead, live_entry, live_entries}
-use Rattle.lr_keys.specs.Kept.{IsKept, IsReady, IsRoomFor, IsSoundSlot, least_of, live_slot, shown, shown_keys, sooner_of}
+use Rattle.lr_keys.specs.KeySpace.{Keys, entry_at, is_ahead, live_entry, live_entries}
+use Rattle.lr_keys.specs.Kept.{IsKept, IsRoomFor, live_slot, shown, shown_keys, sooner_of}
 use Rattle.lr_keys.proofs.KeptLemmas.{entry_at-shown}
 
 pub option_filter-live : (moment : ℕ) (o : Option Slot) → option_filter (λ slot. is_ahead moment slot.expiry) o ≡ live_slot moment o

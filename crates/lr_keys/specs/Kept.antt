@@ -1,8 +1,7 @@
 -- How the fields of a key space stand for the keys that a contract sees.
-use Rattle.std.specs.Prelude.{◌≡◌, ◌≤◌, ◌<◌, ℕ, List, [], Option, Some, None, ℤ, length, ⊤, map, fold, min, ◌^◌, ◌-◌, if◌then◌else◌}
+use Rattle.std.specs.Prelude.{◌≡◌, ◌≤◌, ◌<◌, ℕ, List, [], Option, Some, None, ⊤, map, fold, min, ◌^◌, ◌-◌, if◌then◌else◌}
 use Rattle.std.specs.Option.{ForSome}
 use Rattle.std.specs.Str.{bytes_eq}
-use Rattle.std.specs.Map.{lookup}
 use Rattle.indexmap.specs.IndexMap.{get, spare, index_map_len}
 use Rattle.lr_keys.specs.declared.TheConstants.{MAX_MOMENT}
 use Rattle.lr_keys.specs.declared.slot.Slot.{Slot}

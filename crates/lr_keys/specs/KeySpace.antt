@@ -1,6 +1,6 @@
 -- Keys with a value and an expiry or none, and what each call does to them, as the Redis command pages say.
-use Rattle.std.specs.Prelude.{◌≡◌, ◌+◌, ◌-◌, ◌≤◌, ◌<◌, ℕ, Bool, true, false, nat_lt, ◌&&◌, List, [], ◌∷◌, length, Option, Some, None, is_some, Result, Ok, Err, IsOk, ℤ, pos, negsuc, if◌then◌else◌, option_map}
-use Rattle.std.specs.Option.{option_and_then, ok_or, ForSome}
+use Rattle.std.specs.Prelude.{◌≡◌, ◌+◌, ◌-◌, ◌≤◌, ◌<◌, ℕ, Bool, true, false, nat_lt, ◌&&◌, List, [], ◌∷◌, length, Option, Some, None, is_some, Result, Ok, Err, IsOk, ℤ, pos, negsuc, if◌then◌else◌}
+use Rattle.std.specs.Option.{ok_or, ForSome}
 use Rattle.std.specs.Str.{bytes_eq}
 use Rattle.std.specs.Map.{lookup}
 use Rattle.lr_keys.specs.declared.TheConstants.{MAX_MEMBERS, MAX_MOMENT, MAX_LEASE}
@@ -67,33 +67,37 @@ abbrev pub kind_in : Content → ValueKind
 kind_in (Fields _) = Hash
 kind_in (Number _) = Counter
 
+-- the kind of the key's value, if the key is there
 abbrev pub kind_at : Option Entry → Option ValueKind
 kind_at None = None
 kind_at (Some e) = Some (kind_in e.value)
 
--- the fields of the hash: an absent key is an empty hash (Redis command page HGETALL)
+-- the fields of a hash
 abbrev pub hash_in : Content → Result (List (List ℕ × ℤ)) KeyFault
 hash_in (Fields pairs) = Ok pairs
 hash_in (Number _) = Err WrongKind
 
+-- the fields of the key's hash: an absent key is an empty hash (Redis command page HGETALL)
 abbrev pub hash_at : Option Entry → Result (List (List ℕ × ℤ)) KeyFault
 hash_at None = Ok []
 hash_at (Some e) = hash_in e.value
 
--- the number of the counter, if the key is there (Redis command page GET)
+-- the number of a counter
 abbrev pub counter_in : Content → Result (Option ℤ) KeyFault
 counter_in (Number n) = Ok (Some n)
 counter_in (Fields _) = Err WrongKind
 
+-- the number of the key's counter, if the key is there (Redis command page GET)
 abbrev pub counter_at : Option Entry → Result (Option ℤ) KeyFault
 counter_at None = Ok None
 counter_at (Some e) = counter_in e.value
 
--- the number of a field of the hash (Redis command page HGET)
+-- the number of a field of a hash
 abbrev pub field_of : List ℕ → Result (List (List ℕ × ℤ)) KeyFault → Result (Option ℤ) KeyFault
 field_of field (Ok pairs) = Ok (field_value field pairs)
 field_of field (Err fault) = Err fault
 
+-- the number of a field of the key's hash, if the field is there (Redis command page HGET)
 abbrev pub field_at : List ℕ → Option Entry → Result (Option ℤ) KeyFault
 field_at field entry = field_of field (hash_at entry)
 
@@ -113,10 +117,12 @@ abbrev pub raised : ℤ → Bool → Option ℤ → Result ℤ KeyFault
 raised by has_room (Some number) = ok_or (sum_of number by) Overflow
 raised by has_room None = if has_room then Ok by else Err TooMany
 
+-- what it makes of a field of a hash
 abbrev pub raised_in : List ℕ → ℤ → Result (List (List ℕ × ℤ)) KeyFault → Result ℤ KeyFault
 raised_in field by (Ok pairs) = raised by (nat_lt (length pairs) MAX_MEMBERS) (field_value field pairs)
 raised_in field by (Err fault) = Err fault
 
+-- and of a counter
 abbrev pub raised_counter : ℤ → Result (Option ℤ) KeyFault → Result ℤ KeyFault
 raised_counter by (Ok number) = raised by true number
 raised_counter by (Err fault) = Err fault
@@ -141,15 +147,17 @@ abbrev pub content_without_field : List ℕ → Content → Content
 content_without_field field (Fields pairs) = Fields (without_field field pairs)
 content_without_field field (Number n) = Number n
 
+-- whether a value is a hash with no fields
 abbrev pub is_empty_hash : Content → Bool
 is_empty_hash (Fields []) = true
 is_empty_hash (Fields (p ∷ ps)) = false
 is_empty_hash (Number n) = false
 
--- the entry without the field: a hash that becomes empty is removed (Redis command page HDEL)
+-- the entry with this value, which is none for an empty hash
 abbrev pub entry_with_value : Content → Option ℕ → Option Entry
 entry_with_value value expiry = if is_empty_hash value then None else Some (record { value = value; expiry = expiry })
 
+-- the entry without the field: a hash that becomes empty is removed (Redis command page HDEL)
 abbrev pub entry_without_field : List ℕ → Option Entry → Option Entry
 entry_without_field field None = None
 entry_without_field field (Some e) = entry_with_value (content_without_field field e.value) e.expiry
@@ -159,11 +167,12 @@ abbrev pub entry_with_expiry : ℕ → Option Entry → Option Entry
 entry_with_expiry expiry None = None
 entry_with_expiry expiry (Some e) = Some (record e { expiry = Some expiry })
 
--- the milliseconds left: -2 where the key is absent, -1 where it has no expiry (Redis command page PTTL)
+-- the milliseconds from the moment to an expiry, and -1 for none
 abbrev pub time_to : ℕ → Option ℕ → ℤ
 time_to moment (Some expiry) = pos (expiry - moment)
 time_to moment None = negsuc 0
 
+-- the milliseconds left of the key: -2 where it is absent, -1 where it has no expiry (Redis command page PTTL)
 abbrev pub time_left : ℕ → Option Entry → ℤ
 time_left moment (Some e) = time_to moment e.expiry
 time_left moment None = negsuc 1
@@ -173,6 +182,7 @@ abbrev pub is_ahead : ℕ → Option ℕ → Bool
 is_ahead moment (Some expiry) = nat_lt moment expiry
 is_ahead moment None = true
 
+-- what is left of a key at the moment
 abbrev pub live_entry : ℕ → Option Entry → Option Entry
 live_entry moment (Some e) = if is_ahead moment e.expiry then Some e else None
 live_entry moment None = None

@@ -81,6 +81,7 @@ impl KeySpace {
         requires { moment ≤ MAX_MOMENT }
         ensures moment { self.new.moment ≡ max self.old.moment moment }
         ensures entries { entry_at self.new ≡ live_entries (max self.old.moment moment) (entry_at self.old) }
+        ensures sound { IsSound self.new }
         ensures prepared { plan_at self.new ≡ plan_at self.old }
     {
         let moment = self.moment.max(moment);

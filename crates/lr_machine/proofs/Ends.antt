@@ -1,5 +1,5 @@
 -- The ends of a run, one by one.
-use Rattle.std.proofs.Common.{◌≡◌, ◌⊎◌, inl, inr, ℕ, ◌+◌, ◌<◌, ◌≤◌, List, [], ◌∷◌, ◌++◌, length, get_or, refl, sym, ap, ◌∙◌, subst, arith}
+use Rattle.std.proofs.Common.{◌≡◌, ◌⊎◌, inl, inr, ℕ, ◌+◌, ◌<◌, ◌≤◌, List, [], ◌∷◌, ◌++◌, length, get_or, refl, sym, ap, subst, arith}
 use Rattle.lr_outside.specs.Lines.{lines_of}
 use Rattle.lr_outside.specs.Turns.{Rose}
 use Rattle.lr_outside.specs.declared.status.Status.{Status}

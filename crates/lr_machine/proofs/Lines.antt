@@ -1,8 +1,8 @@
 -- How each turn of the reader of lines, and what was written then, carries a run on or ends it.
-use Rattle.std.proofs.Common.{◌≡◌, ◌≢◌, ◌⊎◌, inl, inr, ℕ, ◌+◌, ◌<◌, List, [], ◌∷◌, ◌++◌, length, Option, Some, None, refl, sym, ap, ◌∙◌, subst, arith, append-nil}
+use Rattle.std.proofs.Common.{◌≡◌, ◌⊎◌, inl, inr, ℕ, ◌+◌, ◌<◌, List, [], ◌∷◌, ◌++◌, length, Option, Some, None, refl, sym, ap, ◌∙◌, subst}
 use Rattle.std.specs.Io.KnownBytes.{Appends}
 use Rattle.std.proofs.KnownBytes.{Appends-nil}
-use Rattle.lr_outside.specs.Lines.{lines_of, HasNoLineEnd, IsFirstLine, BeginsTooLong, ahead, WhereKnown, IsTurn, IsUndecided}
+use Rattle.lr_outside.specs.Lines.{lines_of, ahead, WhereKnown, IsTurn, IsUndecided}
 use Rattle.lr_outside.specs.Turns.{AppendsFront, Rose}
 use Rattle.lr_outside.specs.declared.TheConstants.{LINE_BYTES}
 use Rattle.lr_outside.specs.declared.line_reader.LineTurn.TheVariants.{Line, End, TooLong, Fault}
@@ -14,7 +14,7 @@ use Rattle.lr_model.specs.declared.schedule_line.ScheduleLine.TheVariants as kin
 use Rattle.lr_model.specs.Transcript.{IsLine}
 use Rattle.lr_model.specs.World.{World}
 use Rattle.lr_machine.specs.Play.{WereRead, EndsRefused, HasCause}
-use Rattle.lr_machine.specs.Progress.{Progress, IsAt, Ends, text_of, world_after_line, Told, IsEventLine}
+use Rattle.lr_machine.specs.Progress.{Progress, IsAt, Ends, text_of, world_after_line, Told}
 use Rattle.lr_machine.proofs.Progress.{stopped, in_part, ran_through, broke_off, goes_on, was_read, refused}
 
 some_is : {A : Type 0} (x y : A) → Some x ≡ Some y → x ≡ y

@@ -1,19 +1,14 @@
 -- No event has a text of more than 512 bytes.
-use Rattle.std.proofs.Common.{◌≡◌, ◌≢◌, ℕ, ◌+◌, ◌<◌, ◌≤◌, ◌^◌, List, length, decimal, codes, Bool, true, false, refl, sym, ap, ◌∙◌, subst, arith}
+use Rattle.std.proofs.Common.{ℕ, ◌<◌, ◌≤◌, ◌^◌, List, length, decimal, sym, ap, subst, arith}
 use Rattle.std.proofs.lemmas.List.{length-append}
-use Rattle.std.proofs.lemmas.Bool.{false≢true}
 use Rattle.lr_text.proofs.NumberLaws.{length-decimal}
 use Rattle.lr_outside.specs.declared.TheConstants.{LINE_BYTES}
-use Rattle.lr_names.specs.Name.{IsName}
 use Rattle.lr_objects.specs.declared.function.Function.{Function}
 use Rattle.lr_objects.specs.declared.function.Function.TheVariants.{LockTry, LockUnlock, LockRenew, LockForce}
-use Rattle.lr_objects.specs.declared.want.Lease.TheVariants as leases
-use Rattle.lr_objects.specs.declared.want.Mode.TheVariants as modes
-use Rattle.lr_objects.specs.declared.want.Want.{Want}
 use Rattle.lr_model.specs.declared.event.Event.{Event}
 use Rattle.lr_model.specs.declared.event.Event.TheVariants.{Begin, Ask, Exec, Take, Tick, Force}
 use Rattle.lr_model.specs.declared.schedule_line.ScheduleLine.TheVariants as kinds
-use Rattle.lr_model.specs.EventText.{event_text, IsEvent, IsWant, function_word, mode_word, lease_word}
+use Rattle.lr_model.specs.EventText.{event_text, IsEvent, function_word, mode_word, lease_word}
 use Rattle.lr_model.specs.Transcript.{IsLine}
 
 short_number : (n : ℕ) → n < 2 ^ 64 → length (decimal n) ≤ 20

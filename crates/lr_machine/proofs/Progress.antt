@@ -1,18 +1,14 @@
 -- One line more.
-use Rattle.std.proofs.Common.{◌≡◌, ◌≢◌, ◌⊎◌, inl, inr, ⊎_elim, ℕ, ◌+◌, ◌<◌, ◌≤◌, List, [], ◌∷◌, ◌++◌, length, Option, Some, None, flat_map, refl, sym, ap, ◌∙◌, subst, arith, append_assoc, append-nil}
+use Rattle.std.proofs.Common.{◌≡◌, ◌⊎◌, inl, inr, ⊎_elim, ℕ, ◌+◌, List, [], ◌∷◌, ◌++◌, length, refl, sym, ap, ◌∙◌, subst, arith, append_assoc, append-nil}
 use Rattle.std.proofs.lemmas.List.{length-append}
-use Rattle.std.specs.Io.KnownBytes.{Appends}
-use Rattle.lr_outside.specs.Lines.{lines_of, HasNoLineEnd, IsFirstLine, BeginsTooLong, ahead}
-use Rattle.lr_outside.specs.Turns.{AppendsFront}
-use Rattle.lr_outside.specs.declared.status.Status.{Status}
-use Rattle.lr_outside.specs.declared.status.Status.TheVariants.{Done, ReadFault, WriteFault, BadLine, NoMemory, TooMany}
+use Rattle.lr_outside.specs.Lines.{lines_of, HasNoLineEnd, IsFirstLine}
 use Rattle.lr_model.specs.declared.event.Event.{Event}
 use Rattle.lr_model.specs.declared.schedule_line.ScheduleLine.{ScheduleLine}
 use Rattle.lr_model.specs.declared.schedule_line.ScheduleLine.TheVariants as kinds
 use Rattle.lr_model.specs.Transcript.{Transcript, AreEvents, IsLine}
 use Rattle.lr_model.specs.World.{World, first_world, next}
-use Rattle.lr_machine.specs.Play.{ended, Gives, RanThrough, StoppedAt, AreWhole, BrokeOff, WereRead, EndsRefused, WrittenInPart, EndsSo}
-use Rattle.lr_machine.specs.Progress.{Progress, IsAt, Ends, text_of, world_after_line, Told}
+use Rattle.lr_machine.specs.Play.{ended, Gives, RanThrough, StoppedAt, BrokeOff, WereRead, EndsRefused, WrittenInPart}
+use Rattle.lr_machine.specs.Progress.{Progress, text_of}
 
 pub ended-append : (xs ys : List (List ℕ)) → ended (xs ++ ys) ≡ ended xs ++ ended ys
 ended-append [] ys = refl

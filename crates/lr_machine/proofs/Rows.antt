@@ -1,5 +1,5 @@
 -- The row of an executed call, at the request that the code found.
-use Rattle.std.proofs.Common.{◌≡◌, ℕ, List, [], ◌∷◌, ◌++◌, Option, Some, None, ap, ◌∙◌, sym, refl}
+use Rattle.std.proofs.Common.{◌≡◌, ℕ, List, [], ◌∷◌, ◌++◌, Option, Some, ap, ◌∙◌, sym}
 use Rattle.lr_objects.specs.declared.reply.Reply.{Reply}
 use Rattle.lr_model.specs.declared.entry.Entry.{Entry}
 use Rattle.lr_model.specs.declared.waiter.Asking.{Asking}
@@ -9,7 +9,7 @@ use Rattle.lr_model.specs.declared.waiter.Stage.TheVariants.{Answered}
 use Rattle.lr_model.specs.Answer.{reply_of}
 use Rattle.lr_model.specs.Table.{put}
 use Rattle.lr_model.specs.History.{after}
-use Rattle.lr_model.specs.World.{World, first_state, same_thread, at_stage, asked_at, asked_of, answered_row, call_entry, caller_of, command_connection, with_waiter, with_entry, next_exec, replied_at}
+use Rattle.lr_model.specs.World.{World, first_state, same_thread, at_stage, asked_at, asked_of, answered_row, call_entry, caller_of, command_connection, with_waiter, with_entry, next_exec}
 use Rattle.lr_machine.specs.Waiters.{request_of}
 use Rattle.lr_machine.specs.Machine.{world}
 

@@ -1,5 +1,5 @@
 -- How a run of a schedule may end, and what was written then.
-use Rattle.std.specs.Prelude.{◌≡◌, ◌≢◌, ◌⊎◌, ℕ, ◌+◌, List, [], ◌∷◌, ◌++◌, length, codes, flat_map, Option, Some}
+use Rattle.std.specs.Prelude.{◌≡◌, ◌⊎◌, ℕ, ◌+◌, List, [], ◌∷◌, ◌++◌, length, codes, flat_map, Option, Some}
 use Rattle.lr_outside.specs.Lines.{lines_of, HasNoLineEnd}
 use Rattle.lr_outside.specs.Turns.{Rose}
 use Rattle.lr_outside.specs.declared.status.Status.{Status}

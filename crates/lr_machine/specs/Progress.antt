@@ -1,5 +1,5 @@
 -- How far a run of a schedule has come.
-use Rattle.std.specs.Prelude.{◌≡◌, ◌⊎◌, ℕ, ◌+◌, List, [], ◌∷◌, ◌++◌, length, Option, Some, None}
+use Rattle.std.specs.Prelude.{◌≡◌, ◌⊎◌, ℕ, ◌+◌, List, [], ◌++◌, length, Option, Some, None}
 use Rattle.lr_outside.specs.Lines.{lines_of, ahead}
 use Rattle.lr_outside.specs.Turns.{AppendsFront}
 use Rattle.std.specs.Io.KnownBytes.{Appends}
@@ -8,7 +8,7 @@ use Rattle.lr_outside.specs.declared.status.Status.TheVariants.{Done, Usage, Rea
 use Rattle.lr_model.specs.declared.event.Event.{Event}
 use Rattle.lr_model.specs.declared.schedule_line.ScheduleLine.{ScheduleLine}
 use Rattle.lr_model.specs.declared.schedule_line.ScheduleLine.TheVariants as kinds
-use Rattle.lr_model.specs.Transcript.{Transcript, AreEvents, IsLine, shown_line, bad_line, too_many_line}
+use Rattle.lr_model.specs.Transcript.{Transcript, AreEvents, shown_line, bad_line, too_many_line}
 use Rattle.lr_model.specs.World.{World, first_world, shown, next}
 use Rattle.lr_machine.specs.Play.{ended, EndsSo}
 

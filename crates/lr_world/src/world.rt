@@ -5,9 +5,10 @@ ghost use Rattle.lr_model.specs.Transcript.{event_limit};
 ghost use Rattle.lr_model.specs.World.{shown, next, signed, acts_of};
 ghost use Rattle.lr_machine.specs.Machine.{world_of};
 
+use crate::lock_server::LockServer;
+use lr_history::History;
 use lr_machine::Machine;
-use lr_model::{Entry, Event, Shown};
-use lr_plain::{PlainServer, plain_world};
+use lr_model::{Event, Shown};
 use std::alloc::{AllocError, Global};
 use std::marker::Model;
 
@@ -16,7 +17,7 @@ use std::marker::Model;
 /// 2c - 1.
 #[derive(Drop)]
 pub struct World {
-    machine: Machine<PlainServer>,
+    machine: Machine<LockServer>,
 }
 
 impl Model for World {
@@ -32,8 +33,9 @@ impl World {
     pub fn new(alloc: Global) -> Result<World, AllocError>
         ensures { IfOk result (λ w. w ≡ record { entries = []; moment = 0; requests = []; applied = 0 }) }
     {
+        let server = LockServer::new(alloc)?;
         Ok(World {
-            machine: plain_world(alloc),
+            machine: Machine::over(alloc, server),
         })
     }
 
@@ -56,14 +58,14 @@ impl World {
     }
 
     /// What the server has done, in order.
-    pub fn history(&self) -> &[Entry]
-        ensures { result.now ≡ self.now.entries }
+    pub fn history(&self) -> &History
+        ensures { result.now.entries ≡ self.now.entries }
     {
-        self.machine.server().entries()
+        self.machine.server().history()
     }
 
     // The machine alone.
-    pub fn into_machine(self) -> Machine<PlainServer>
+    pub fn into_machine(self) -> Machine<LockServer>
         ensures { result ≡ self }
     {
         let World { machine } = self;

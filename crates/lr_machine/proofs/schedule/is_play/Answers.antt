@@ -1,4 +1,4 @@
-use Rattle.std.proofs.Common.{◌≡◌, List, ℕ, [], ◌∷◌, sym, ◌∙◌, ap, arith}
+use Rattle.std.proofs.Common.{List, ℕ, [], ◌∷◌, ◌∙◌, ap, arith}
 use Rattle.lr_schedule.proofs.EventLaws.{only_word}
 use Rattle.lr_machine.proofs.Ends.{one_word}
 use Rattle.lr_machine.proofs.schedule.is_play.Goals as goal

@@ -1,12 +1,9 @@
-use Rattle.std.proofs.Common.{◌≡◌, ℕ, ◌+◌, List, Option, Some, None, IfNone, refl, subst, sym}
-use Rattle.lr_outside.specs.Lines.{WhereKnown, IsTurn, ahead}
-use Rattle.lr_outside.specs.declared.line_reader.LineTurn.TheVariants as turns
-use Rattle.lr_outside.specs.declared.status.Status.{Status}
+use Rattle.std.proofs.Common.{◌≡◌, ℕ, ◌+◌, List, refl, subst, sym}
 use Rattle.lr_model.specs.declared.schedule_line.ScheduleLine.TheVariants as kinds
 use Rattle.lr_model.specs.Transcript.{IsLine}
 use Rattle.lr_model.specs.World.{World, next}
 use Rattle.lr_machine.specs.Machine.{world_of}
-use Rattle.lr_machine.specs.Progress.{IsAt, Ends, Told}
+use Rattle.lr_machine.specs.Progress.{IsAt, Told}
 use Rattle.lr_machine.proofs.Lines.{on, at_end, at_fault, at_line, at_long, cause_of}
 use Rattle.lr_machine.proofs.Long.{long_is_bad}
 use Rattle.lr_machine.proofs.Results.{when_none, when_some, at_none, at_false}

@@ -1,4 +1,4 @@
-use Rattle.std.proofs.Common.{◌≡◌, List, ℕ, subst}
+use Rattle.std.proofs.Common.{subst}
 use Rattle.lr_outside.specs.declared.status.Status.{Status}
 use Rattle.lr_model.proofs.Schedules.{goes_well}
 use Rattle.lr_machine.specs.Play.{WhereTold, EndsSo}

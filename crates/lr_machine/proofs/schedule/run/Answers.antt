@@ -1,6 +1,6 @@
-use Rattle.std.proofs.Common.{◌≡◌, ℕ, ◌+◌, List, [], Option, Some, arith, ap, ◌∙◌, subst, sym, refl}
+use Rattle.std.proofs.Common.{◌≡◌, ℕ, List, [], Option, Some, arith, ap, ◌∙◌, subst, sym}
 use Rattle.lr_outside.specs.Lines.{ahead}
-use Rattle.lr_model.specs.World.{World, first_world}
+use Rattle.lr_model.specs.World.{first_world}
 use Rattle.lr_machine.specs.Machine.{Known, world_of}
 use Rattle.lr_machine.specs.Progress.{IsAt, Progress}
 use Rattle.lr_machine.proofs.Progress.{start, nothing_written}

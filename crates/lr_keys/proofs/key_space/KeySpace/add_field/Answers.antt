@@ -1,4 +1,4 @@
-use Rattle.std.proofs.Common.{◌≡◌, ℕ, ℤ, Bool, ◌<◌, length, Ok, List, Option, Some, None, IsSome, IsTrue, false, if◌then◌else◌, refl, sym, ap, subst, ◌∙◌, arith, w64, is_some}
+use Rattle.std.proofs.Common.{◌≡◌, ℕ, ℤ, Bool, ◌<◌, length, Ok, List, Some, None, if◌then◌else◌, refl, sym, ap, ◌∙◌, arith, w64}
 use Rattle.std.proofs.lemmas.Int.{to_z-of_z}
 use Rattle.std.specs.Option.{option_copied_mut}
 use Rattle.std.specs.Str.{bytes_eq}
@@ -6,8 +6,8 @@ use Rattle.indexmap.specs.IndexMap.{get}
 use Rattle.lr_keys.specs.declared.key_space.KeySpace.TheInside.{Inside}
 use Rattle.lr_keys.specs.declared.TheConstants.{MAX_MEMBERS}
 use Rattle.lr_keys.specs.declared.slot.Slot.{Slot}
-use Rattle.lr_keys.specs.KeySpace.{Entry, entry_at, plan_at, hash_at, hash_in, content_with_field, entry_with_field}
-use Rattle.lr_keys.specs.Kept.{IsSoundSlot, shown, shown_entries, shown_value}
+use Rattle.lr_keys.specs.KeySpace.{plan_at, hash_at, hash_in, content_with_field, entry_with_field}
+use Rattle.lr_keys.specs.Kept.{IsSoundSlot, shown_entries, shown_value}
 use Rattle.lr_keys.specs.Table.{put}
 use Rattle.lr_keys.proofs.KeptLemmas.{ForSome-some, HasRoom-planned, IsKept-grown, IsKept-set, IsRoomFor-some, IsSome-lent, IsSoundSlot-same, IsSoundSlot-with_field, OnErr-always, entry_at-changed, entry_at-read, false_from_err, few_more, is_some-shown, plan_at-spent, sets_written, shown_entries-set_value, shown_keys-same}
 use Rattle.lr_keys.proofs.key_space.KeySpace.add_field.Goals as goal

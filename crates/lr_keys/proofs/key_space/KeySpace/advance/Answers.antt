@@ -1,8 +1,8 @@
-use Rattle.std.proofs.Common.{◌≡◌, ◌≤◌, ℕ, max, refl, ap, ◌∙◌, arith}
+use Rattle.std.proofs.Common.{◌≤◌, max, refl, ap, ◌∙◌, arith}
 use Rattle.lr_keys.specs.declared.TheConstants.{MAX_MOMENT}
 use Rattle.lr_keys.specs.declared.key_space.KeySpace.TheInside.{Inside}
 use Rattle.lr_keys.specs.KeySpace.{entry_at, live_entries}
-use Rattle.lr_keys.proofs.KeptLemmas.{plan_at-same}
+use Rattle.lr_keys.proofs.KeptLemmas.{IsSound-shown, plan_at-same}
 use Rattle.lr_keys.proofs.LiveLemmas.{IsKept-live, entry_at-live, live_before_bound}
 use Rattle.lr_keys.proofs.key_space.KeySpace.advance.Goals as goal
 
@@ -46,3 +46,11 @@ pub returns-clause-prepared : goal.returns-clause-prepared
 returns-clause-prepared c =
     let gone = c.remove_gone-self-inside in
     plan_at-same c.self.inside (record c.self.inside { moment = c.max-moment.result; least_expiry = gone.result; slots = gone.new.slots }) c.args.self.now c.self.view_is refl
+
+pub returns-then-moment-self-clause-sound : goal.returns-then-moment-self-clause-sound
+returns-then-moment-self-clause-sound c = IsSound-shown (record c.self.inside { moment = c.max-moment.result }) (invariant_of-self c)
+
+pub returns-clause-sound : goal.returns-clause-sound
+returns-clause-sound c =
+    let gone = c.remove_gone-self-inside in
+    IsSound-shown (record c.self.inside { moment = c.max-moment.result; least_expiry = gone.result; slots = gone.new.slots }) (invariant_of-self-2 c)

@@ -1,4 +1,4 @@
-use Rattle.std.proofs.Common.{◌≡◌, refl, sym, ap, ◌∙◌, arith, None}
+use Rattle.std.proofs.Common.{refl, ◌∙◌, arith, None}
 use Rattle.lr_keys.specs.declared.key_space.KeySpace.TheInside.{Inside}
 use Rattle.lr_keys.proofs.KeptLemmas.{entry_at-read, entry_at-set, is_some-shown, plan_at-same, IsKept-set}
 use Rattle.lr_keys.proofs.key_space.KeySpace.del.Goals as goal

@@ -1,13 +1,9 @@
-use Rattle.std.proofs.Common.{◌≡◌, ◌≤◌, ℕ, List, Some, length, refl, sym, ap, subst, ◌∙◌, arith}
+use Rattle.std.proofs.Common.{Some, refl, sym, ap, subst, ◌∙◌, arith}
 use Rattle.std.specs.Str.{bytes_eq}
-use Rattle.std.specs.Map.{lookup}
-use Rattle.indexmap.specs.IndexMap.{IndexMap, get, spare, index_map_len}
+use Rattle.indexmap.specs.IndexMap.{get}
 use Rattle.lr_keys.specs.declared.key_space.KeySpace.TheInside.{Inside}
-use Rattle.lr_keys.specs.declared.slot.Slot.{Slot}
-use Rattle.lr_keys.specs.declared.slot.Spare.{Spare}
-use Rattle.lr_keys.specs.declared.value_kind.ValueKind.{ValueKind}
 use Rattle.lr_keys.specs.KeySpace.{Plan, plan_at}
-use Rattle.lr_keys.specs.Kept.{IsKept, IsReady, IsRoomFor, SlotKept, shown_entries, shown_keys}
+use Rattle.lr_keys.specs.Kept.{IsReady, IsRoomFor, shown_entries}
 use Rattle.lr_keys.specs.Table.{put}
 use Rattle.lr_keys.proofs.KeptLemmas.{IsKept-prepared, IsKept-roomier, IsKept-shown, entry_at-same, one_at_most, plan_at-set}
 use Rattle.lr_keys.proofs.key_space.KeySpace.prepare.Goals as goal

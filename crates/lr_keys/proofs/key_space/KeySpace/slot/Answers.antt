@@ -1,4 +1,4 @@
-use Rattle.std.proofs.Common.{◌≡◌, ℕ, sym, ap, subst, ◌∙◌}
+use Rattle.std.proofs.Common.{ℕ, sym, ap, subst, ◌∙◌}
 use Rattle.lr_keys.specs.KeySpace.{IsLive}
 use Rattle.lr_keys.specs.Kept.{shown}
 use Rattle.lr_keys.proofs.KeptLemmas.{entry_at-read}

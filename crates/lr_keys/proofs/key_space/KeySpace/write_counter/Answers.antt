@@ -7,7 +7,7 @@ use Rattle.lr_keys.specs.declared.key_space.KeySpace.TheInside.{Inside}
 use Rattle.lr_keys.specs.declared.slot.Slot.{Slot}
 use Rattle.lr_keys.specs.KeySpace.{Number, Entry, entry_with_number, is_there, counter_at}
 use Rattle.lr_keys.specs.Table.{put}
-use Rattle.lr_keys.specs.Kept.{IsSoundSlot, shown, shown_value}
+use Rattle.lr_keys.specs.Kept.{IsSoundSlot, shown_value}
 use Rattle.lr_keys.proofs.KeptLemmas.{ForSome-some, IsKept-set, IsRoomFor-some, IsSome-lent, IsSome-counter, IsSoundSlot-counter, entry_at-changed, entry_at-read, plan_at-same, sets_written}
 use Rattle.lr_keys.proofs.key_space.KeySpace.write_counter.Goals as goal
 

@@ -1,11 +1,11 @@
-use Rattle.std.proofs.Common.{◌≡◌, ℕ, List, refl, sym, ap, subst, ◌∙◌, arith, None, Some, Option, IsTrue, w64}
+use Rattle.std.proofs.Common.{◌≡◌, ℕ, List, refl, sym, ap, subst, ◌∙◌, arith, Some, Option, IsTrue, w64}
 use Rattle.std.proofs.lemmas.Int.{to_z-of_z}
 use Rattle.std.specs.Option.{option_copied_mut}
 use Rattle.std.specs.Str.{bytes_eq}
 use Rattle.indexmap.specs.IndexMap.{get}
 use Rattle.lr_keys.specs.declared.key_space.KeySpace.TheInside.{Inside}
 use Rattle.lr_keys.specs.declared.slot.Slot.{Slot}
-use Rattle.lr_keys.specs.KeySpace.{Entry, entry_at, content_with_field, entry_with_field, is_there, field_at}
+use Rattle.lr_keys.specs.KeySpace.{Entry, content_with_field, entry_with_field, is_there, field_at}
 use Rattle.lr_keys.specs.Table.{put}
 use Rattle.lr_keys.specs.Kept.{IsSoundSlot, shown, shown_value}
 use Rattle.lr_keys.proofs.KeptLemmas.{ForSome-some, IsKept-set, IsRoomFor-some, IsSome-lent, IsSome-slot, IsSoundSlot-with_field, entry_at-changed, entry_at-read, few_there, plan_at-same, sets_written}

@@ -1,4 +1,4 @@
-use Rattle.std.proofs.Common.{◌≡◌, ◌++◌, ap, ◌∙◌}
+use Rattle.std.proofs.Common.{◌++◌, ap, ◌∙◌}
 use Rattle.lr_model.specs.World.{World, signed, acts_of}
 use Rattle.lr_model.proofs.Schedules.{sound, next_signed}
 use Rattle.lr_machine.specs.Machine.{Known, world, world_of}

@@ -1,4 +1,4 @@
-use Rattle.std.proofs.Common.{List, None, if◌then◌else◌, ◌∙◌, ap, rules}
+use Rattle.std.proofs.Common.{List, None, if◌then◌else◌, ◌∙◌, ap}
 use Rattle.lr_model.specs.declared.waiter.ThreadId.{ThreadId}
 use Rattle.lr_model.specs.declared.waiter.Waiter.{Waiter}
 use Rattle.lr_model.proofs.Tables.{one_table}
