@@ -147,6 +147,8 @@ def main():
                 "%7d names: %8.0f events a second, %6.2f microseconds an event (%d lines in %.2f s)"
                 % (names, 1 / each, each * 1e6, lines, took)
             )
+    if len(costs) < 2:
+        return
     print("an event over %d names costs %.2f times one over %d" % (options.names[-1], costs[-1] / costs[0], options.names[0]))
 
 

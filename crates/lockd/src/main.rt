@@ -1,9 +1,13 @@
 //! The program `lockd`: distributed locks with leases, after Redisson's.
 #![tactic(auto)]
 
+ghost use Rattle.lr_machine.specs.Play.{IsEndOfPlay};
+
 mod command;
 mod dispatch;
 mod line;
+#[cfg(test)]
+mod tests;
 mod texts;
 
 use lr_outside::{InputSource, OutputSink, Status};
@@ -12,7 +16,9 @@ use std::process::ExitCode;
 use std::rt::Env;
 
 // Runs what the command line asks for, on standard input and output.
-fn run<R: Env + Input + Print + AllocGlobal>(rt: &R) -> Status {
+fn run<R: Env + Input + Print + AllocGlobal>(rt: &R) -> Status
+    ensures { IsEndOfPlay result }
+{
     match line::read_words(rt) {
         Ok(words) => {
             let mut source = InputSource::new(rt.reader());
