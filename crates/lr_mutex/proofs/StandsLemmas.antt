@@ -240,3 +240,15 @@ no_keys_stand keys none = record {
   nothing_else = λ key there. absurd (cc (sym (ap (λ (f : List ℕ → Option Entry). is_some (f key)) none) ∙ there));
   bounds = λ name hold at. absurd (cc at);
 }
+
+-- As time goes on, what is left of the keys stands for the same objects.
+pub stands_later : (old new : Keys) (objects : Objects) → StandsFor old objects → old.moment ≤ new.moment → entry_at new ≡ live_entries new.moment (entry_at old) → StandsFor new objects
+stands_later old new objects stands later entries = record {
+  locks = λ name named.
+      at_key (key_text Lock name) ∙ ap (live_entry new.moment) (stands.locks name named) ∙ live_entry-lock old.moment new.moment (objects.mutexes name) later;
+  nothing_else = λ key there. stands.nothing_else key (IsSome-live new.moment (entry_at old key) (subst IsSome (at_key key) there));
+  bounds = stands.bounds;
+}
+  where
+    at_key : (key : List ℕ) → entry_at new key ≡ live_entry new.moment (entry_at old key)
+    at_key key = ap (λ (f : List ℕ → Option Entry). f key) entries
