@@ -1,5 +1,5 @@
 -- The steps on the key of a lock, by the hold that its entry stands for.
-use Rattle.std.proofs.Common.{◌≡◌, ◌≢◌, ◌≤◌, ◌<◌, ◌+◌, ◌-◌, ◌==◌, ℕ, ℤ, pos, ◌+ℤ◌, negsuc, Bool, true, false, ◌&&◌, cond, IsTrue, List, Option, Some, None, option_map, is_some, Result, Ok, if◌then◌else◌, refl, ap, sym, subst, ◌∙◌, arith}
+use Rattle.std.proofs.Common.{◌≡◌, ◌≢◌, ◌≤◌, ◌<◌, ◌+◌, ◌-◌, ◌==◌, ℕ, ℤ, pos, ◌+ℤ◌, negsuc, Bool, true, false, ◌&&◌, cond, IsTrue, List, Option, Some, None, is_some, Result, Ok, refl, ap, sym, subst, ◌∙◌, arith}
 use Rattle.std.specs.Option.{ForSome}
 use Rattle.std.specs.Str.{bytes_eq}
 use Rattle.std.proofs.lemmas.Bool.Decides.{nat_tests}
@@ -7,7 +7,6 @@ use Rattle.std.proofs.lemmas.Int.{ints}
 use lib.Signed.{le_z}
 use mir.Val.{to_z, of_z}
 use mir.Syntax.{w64}
-use Rattle.std.proofs.lemmas.Slice.Eq.{bytes_eq-Decides}
 use Rattle.lr_names.specs.Owner.{ThreadOfClient, IsOwner, owner_text, same_owner}
 use Rattle.lr_names.proofs.OwnerLaws.{owner_text-injective}
 use Rattle.lr_keys.specs.FieldMap.{is_i64}
@@ -16,9 +15,9 @@ use Rattle.lr_keys.specs.KeySpace.{Entry, field_at}
 use Rattle.lr_keys.specs.Table.{put}
 use Rattle.lr_keys.proofs.TableLaws.{bytes_eq-same, same_bytes, bytes_eq-other, put-own}
 use Rattle.lr_objects.specs.declared.reply.Reply.{Reply}
-use Rattle.lr_objects.specs.declared.reply.Reply.TheVariants.{Granted, Busy, Kept, Freed, NotHeld, Renewed, Lost, TooDeep}
+use Rattle.lr_objects.specs.declared.reply.Reply.TheVariants.{Granted, Busy, Kept, NotHeld, Renewed, Lost, TooDeep}
 use Rattle.lr_model.specs.declared.hold.Hold.{Hold}
-use Rattle.lr_model.specs.Mutex.{Outcome, unchanged, held_so, freed, try_lock, unlock, renew_lock}
+use Rattle.lr_model.specs.Mutex.{unchanged, held_so, freed, try_lock, unlock, renew_lock}
 use Rattle.lr_mutex.specs.Stands.{IsHold, lock_entry, one_field}
 use Rattle.lr_mutex.specs.Step.{IsHeld, IsStep, count_of}
 

@@ -1,27 +1,26 @@
 -- From the entry of one lock to all objects.
-use Rattle.std.proofs.Common.{◌≡◌, ◌≢◌, ◌≤◌, ◌<◌, ◌+◌, ◌-◌, ◌==◌, ℕ, nat_lt, Bool, true, false, cond, List, Option, Some, None, IsSome, is_some, option_map, if◌then◌else◌, max, refl, ap, sym, subst, ◌∙◌, arith}
+use Rattle.std.proofs.Common.{◌≡◌, ◌≤◌, ◌<◌, ◌+◌, ◌-◌, ◌==◌, ℕ, nat_lt, Bool, true, false, List, Option, Some, None, IsSome, is_some, option_map, if◌then◌else◌, refl, ap, sym, subst, ◌∙◌, arith}
 use Rattle.std.specs.Option.{ForSome}
 use Rattle.std.specs.Str.{bytes_eq}
 use Rattle.std.proofs.lemmas.Bool.Decides.{nat_tests}
 use Rattle.lr_names.specs.declared.part.Part.TheVariants.{Lock}
-use Rattle.lr_names.specs.declared.post.Post.{Post}
 use Rattle.lr_names.specs.Key.{key_text}
 use Rattle.lr_names.specs.Name.{IsName}
 use Rattle.lr_names.specs.Owner.{ThreadOfClient, IsOwner, same_owner}
 use Rattle.lr_names.proofs.KeyLaws.{key_text-injective}
-use Rattle.lr_keys.specs.KeySpace.{Entry, Keys, entry_at, is_ahead, live_entry, live_entries}
+use Rattle.lr_keys.specs.KeySpace.{Entry, Keys, entry_at, live_entry, live_entries}
 use Rattle.lr_keys.specs.Table.{put}
 use Rattle.lr_keys.proofs.TableLaws.{bytes_eq-same, same_bytes, put-same, put-other}
 use Rattle.lr_objects.specs.declared.op.Op.{Op}
 use Rattle.lr_objects.specs.declared.op.Op.TheVariants.{LockTry, LockUnlock, LockRenew, LockForce}
 use Rattle.lr_objects.specs.declared.reply.Reply.{Reply}
-use Rattle.lr_objects.specs.declared.reply.Reply.TheVariants.{Granted, Busy, Kept, Freed, NotHeld, Renewed, Lost, TooDeep, BadLease}
+use Rattle.lr_objects.specs.declared.reply.Reply.TheVariants.{Granted, Kept, Renewed}
 use Rattle.lr_model.specs.declared.hold.Hold.{Hold}
 use Rattle.lr_model.specs.Answer.{Objects, no_objects, mutex_outcome, name_of, outcome_of, reply_of, objects_after, post_of, lock_post}
-use Rattle.lr_model.specs.Moment.{is_lease, is_live, last_moment}
-use Rattle.lr_model.specs.Mutex.{Outcome, live_hold, unchanged, held_so, freed, try_lock, unlock, renew_lock, force_lock, with_lease}
+use Rattle.lr_model.specs.Moment.{is_lease, last_moment}
+use Rattle.lr_model.specs.Mutex.{Outcome, live_hold, held_so, try_lock, unlock, renew_lock}
 use Rattle.lr_mutex.specs.Stands.{IsHold, StandsFor, lock_entry}
-use Rattle.lr_mutex.specs.Step.{IsHeld, IsStep, IsCall, is_freed}
+use Rattle.lr_mutex.specs.Step.{IsHeld, IsCall, is_freed}
 
 -- a choice of outcomes
 either : (P : Outcome (Option Hold) → Type 0) (b : Bool) (x y : Outcome (Option Hold)) → (b ≡ true → P x) → (b ≡ false → P y) → P (if b then x else y)
@@ -240,3 +239,15 @@ no_keys_stand keys none = record {
   nothing_else = λ key there. absurd (cc (sym (ap (λ (f : List ℕ → Option Entry). is_some (f key)) none) ∙ there));
   bounds = λ name hold at. absurd (cc at);
 }
+
+-- As time goes on, what is left of the keys stands for the same objects.
+pub stands_later : (old new : Keys) (objects : Objects) → StandsFor old objects → old.moment ≤ new.moment → entry_at new ≡ live_entries new.moment (entry_at old) → StandsFor new objects
+stands_later old new objects stands later entries = record {
+  locks = λ name named.
+      at_key (key_text Lock name) ∙ ap (live_entry new.moment) (stands.locks name named) ∙ live_entry-lock old.moment new.moment (objects.mutexes name) later;
+  nothing_else = λ key there. stands.nothing_else key (IsSome-live new.moment (entry_at old key) (subst IsSome (at_key key) there));
+  bounds = stands.bounds;
+}
+  where
+    at_key : (key : List ℕ) → entry_at new key ≡ live_entry new.moment (entry_at old key)
+    at_key key = ap (λ (f : List ℕ → Option Entry). f key) entries

@@ -1,5 +1,5 @@
 -- For which objects the keys of a key space stand.
-use Rattle.std.specs.Prelude.{◌≡◌, ◌≤◌, ◌<◌, ◌^◌, ℕ, ℤ, pos, List, [], ◌∷◌, Option, Some, IsSome, option_map}
+use Rattle.std.specs.Prelude.{◌≡◌, ◌≤◌, ◌<◌, ◌^◌, ℕ, ℤ, pos, List, [], ◌∷◌, Some, IsSome, option_map}
 use Rattle.lr_names.specs.Name.{IsName}
 use Rattle.lr_names.specs.Owner.{IsOwner, owner_text}
 use Rattle.lr_names.specs.Key.{key_text}

@@ -58,6 +58,7 @@ fn make_room(
     keys.prepare(alloc, key, ValueKind::Hash, &owner.brief())
 }
 
+// Takes the lock. Where nobody holds it, its memory is taken before the moment goes on.
 fn lock_try(
     alloc: Global,
     keys: &mut KeySpace,
@@ -85,6 +86,7 @@ fn lock_try(
     Ok(take(alloc, keys, &key, owner, lease))
 }
 
+// Gives one hold back.
 fn lock_unlock(
     alloc: Global,
     keys: &mut KeySpace,
@@ -106,6 +108,7 @@ fn lock_unlock(
     give_back(alloc, keys, &key(Part::Lock, name), owner, rest)
 }
 
+// Renews the lease of a hold.
 fn lock_renew(keys: &mut KeySpace, moment: u64, name: &Name, owner: &Owner, lease: u64) -> Reply
     requires { moment ≤ last_moment }
     ensures step { let m = max keys.old.moment moment in let k = key_text Part.Lock name.now in
@@ -120,6 +123,7 @@ fn lock_renew(keys: &mut KeySpace, moment: u64, name: &Name, owner: &Owner, leas
     renew(keys, &key(Part::Lock, name), owner, lease)
 }
 
+// Takes the lock away.
 fn lock_force(keys: &mut KeySpace, moment: u64, name: &Name) -> Reply
     requires { moment ≤ last_moment }
     ensures step { let m = max keys.old.moment moment in let k = key_text Part.Lock name.now in
@@ -152,13 +156,14 @@ fn answer(alloc: Global, keys: &mut KeySpace, moment: u64, op: &Op) -> Result<Re
     }
 }
 
-// What the types of a name and an owner say of them.
+// What the type of a name says of it.
 fn named(name: &Name)
     ensures { IsName name.now }
 {
     let _text = name.as_slice();
 }
 
+// What the types of a name and an owner say of them.
 fn owned(name: &Name, owner: &Owner)
     ensures name { IsName name.now }
     ensures owner { IsOwner owner.now }
@@ -168,6 +173,7 @@ fn owned(name: &Name, owner: &Owner)
     let _thread = owner.thread();
 }
 
+// What the types of the keys and of a call's parts say of them.
 fn known(keys: &KeySpace, op: &Op)
     ensures call { IsCall op.now }
     ensures moment { keys.now.moment ≤ last_moment }

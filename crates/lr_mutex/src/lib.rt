@@ -11,4 +11,4 @@ mod steps;
 mod tests;
 
 pub use functions::run;
-pub use laws::no_keys_stand_for_no_objects;
+pub use laws::{keys_stand_later, no_keys_stand_for_no_objects};

@@ -1,5 +1,4 @@
-use Rattle.std.proofs.Common.{◌≡◌, ◌≤◌, max, sym, ap, ◌∙◌, arith}
-use Rattle.lr_keys.specs.KeySpace.{Keys, entry_at}
+use Rattle.std.proofs.Common.{◌≤◌, max, ◌∙◌, arith}
 use Rattle.lr_model.specs.Moment.{last_moment}
 use Rattle.lr_mutex.proofs.StandsLemmas.{held_before, post_stands, stands_after}
 use Rattle.lr_mutex.proofs.functions.run.Goals as goal

@@ -1,4 +1,3 @@
-use Rattle.std.proofs.Common.{◌≡◌, ◌<◌, ℕ, sym, ◌∙◌, arith}
 use Rattle.lr_keys.specs.KeySpace.{entry_at}
 use Rattle.lr_mutex.specs.Step.{count_of}
 use Rattle.lr_mutex.proofs.HoldLemmas.{count_of-few, count-zero, count-several, not_held_step, kept_step}

@@ -1,8 +1,7 @@
-use Rattle.std.proofs.Common.{◌≡◌, Ok, Some, pos, w64, sym, ap, ◌∙◌, arith, rules}
+use Rattle.std.proofs.Common.{◌≡◌, Ok, w64, sym, ap, ◌∙◌, arith, rules}
 use Rattle.std.proofs.lemmas.Int.{to_z-of_z}
 use mir.Val.{SFits, to_z, of_z}
 use Rattle.lr_keys.specs.KeySpace.{entry_at, field_at}
-use Rattle.lr_mutex.specs.Step.{count_of}
 use Rattle.lr_mutex.proofs.HoldLemmas.{count_of-field}
 use Rattle.lr_mutex.proofs.steps.holds.Goals as goal
 
