@@ -1,5 +1,5 @@
 //! The functions of the lock, each one step at a moment.
-ghost use Rattle.std.specs.Prelude.{◌≡◌, ◌≤◌, ℕ, List, Option, None, max, is_some, is_none, ◌&&◌, false, IsTrue, IsOk, IfOk, OnOk, OnErr};
+ghost use Rattle.std.specs.Prelude.{◌≡◌, ◌≤◌, Option, None, max, is_some, is_none, ◌&&◌, false, IsTrue, IsOk, IfOk, OnOk, OnErr};
 ghost use Rattle.lr_names.specs.Key.{key_text};
 ghost use Rattle.lr_names.specs.Name.{IsName};
 ghost use Rattle.lr_names.specs.Owner.{IsOwner, owner_text};

@@ -1,7 +1,7 @@
 //! What each function does to the key of its lock, at the moment of the keys.
-ghost use Rattle.std.specs.Prelude.{◌≡◌, ◌≤◌, ◌+◌, ◌-◌, ℕ, ℤ, pos, ◌+ℤ◌, List, Option, IsTrue};
+ghost use Rattle.std.specs.Prelude.{◌≡◌, ◌+◌, ◌-◌, ℕ, ℤ, pos, ◌+ℤ◌, Option, IsTrue};
 ghost use Rattle.lr_keys.specs.FieldMap.{is_i64};
-ghost use Rattle.lr_keys.specs.KeySpace.{IsPrepared, IsSound, entry_at};
+ghost use Rattle.lr_keys.specs.KeySpace.{IsPrepared, entry_at};
 ghost use Rattle.lr_keys.specs.Table.{put};
 ghost use Rattle.lr_model.specs.declared.hold.Hold.{Hold};
 ghost use Rattle.lr_model.specs.Moment.{is_lease};
@@ -10,7 +10,7 @@ ghost use Rattle.lr_names.specs.Owner.{owner_text};
 ghost use Rattle.lr_mutex.specs.Stands.{one_field};
 ghost use Rattle.lr_mutex.specs.Step.{IsHeld, IsStep, count_of};
 
-use lr_keys::{KeySpace, MAX_LEASE, ValueKind};
+use lr_keys::{KeySpace, ValueKind};
 use lr_names::Owner;
 use lr_objects::{Remaining, Reply};
 use lr_text::Brief;

@@ -17,7 +17,7 @@ const MOST_HOLDS: u64 = 1_000_000;
 // The longest lease, in milliseconds: a thousand days.
 const LONGEST_LEASE: u64 = 86_400_000_000;
 
-// The reply to a call, the hold of its lock afterwards, and whether it posts to the channel of the lock.
+// The reply to a call, the hold of its lock afterwards, and whether it posts to the lock's channel.
 #[derive(Clone, Copy)]
 pub struct Effect {
     pub reply: Reply,
@@ -32,7 +32,7 @@ impl Model for Effect {
 
     ghost Value = { Outcome (Option Hold) };
 
-    ghost view = { λ a. record { reply = a.reply; object = a.hold; posts = a.posts } };
+    ghost view = { λ e. record { reply = e.reply; object = e.hold; posts = e.posts } };
 
     ghost inverse = { λ o. record { reply = o.reply; hold = o.object; posts = o.posts } };
 }

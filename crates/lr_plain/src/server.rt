@@ -12,8 +12,8 @@ use lr_objects::Op;
 use std::alloc::{AllocError, Global};
 use std::marker::Model;
 
-/// A server that keeps its reentrant locks and its history as plain lists. A call goes over all locks that are
-/// held.
+/// A server that keeps its reentrant locks and its history as plain lists. A call goes over all
+/// locks that are held.
 #[derive(Drop)]
 pub struct PlainServer {
     locks: Vec<Lock>,
@@ -76,12 +76,13 @@ impl Server for PlainServer {
         self.locks.reserve(1)?;
         let effect = run(&mut self.locks, moment, op);
         let act = Act::Call(*op);
-        self.entries.push_reserved(Entry {
+        let entry = Entry {
             moment,
             caller,
             conn,
             act,
-        });
+        };
+        self.entries.push_reserved(entry);
         Ok(shown(&name_of(op), &effect))
     }
 }

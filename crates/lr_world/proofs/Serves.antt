@@ -26,15 +26,15 @@ module _ (entries : List Entry) (old new : Keys) (moment caller conn : ℕ) (op 
   pub serves_on : ((objects : Objects) → StandsFor old objects → StandsFor new (objects_after objects (max old.moment moment) op)) → new.moment ≡ max old.moment moment
       → IsServing (entries ++ call_entry moment caller conn op ∷ []) new
   serves_on stands now =
-    let state : State = after first_state entries in
-    let entry : Entry = call_entry moment caller conn op in
-    let pushed : after first_state (entries ++ entry ∷ []) ≡ step state entry = after-push first_state entries entry in
-    record {
-      stands = subst (λ (s : State). StandsFor new s.objects) (sym pushed)
-        (subst (λ m. StandsFor new (objects_after state.objects m op)) same_moment (stands state.objects serving.stands));
-      in_time = subst (λ (s : State). new.moment ≤ s.moment) (sym pushed) (omega (arith, now, same_moment));
-      quiet = λ c. ap (λ (s : State). s.board c) pushed ∙ posted_quiet (post_of state.objects moment op) state.board serving.quiet c;
-    }
+      let state : State = after first_state entries in
+      let entry : Entry = call_entry moment caller conn op in
+      let pushed : after first_state (entries ++ entry ∷ []) ≡ step state entry = after-push first_state entries entry in
+      record {
+        stands = subst (λ (s : State). StandsFor new s.objects) (sym pushed)
+            (subst (λ m. StandsFor new (objects_after state.objects m op)) same_moment (stands state.objects serving.stands));
+        in_time = subst (λ (s : State). new.moment ≤ s.moment) (sym pushed) (omega (arith, now, same_moment));
+        quiet = λ c. ap (λ (s : State). s.board c) pushed ∙ posted_quiet (post_of state.objects moment op) state.board serving.quiet c;
+      }
 
   pub replies_so : (reply : Reply) (post : Option Post) → ((objects : Objects) → StandsFor old objects → reply ≡ reply_of objects (max old.moment moment) op)
       → ((objects : Objects) → StandsFor old objects → post ≡ post_of objects (max old.moment moment) op) → unheard reply post ≡ replied_at (after first_state entries) moment op
@@ -48,5 +48,6 @@ module _ (entries : List Entry) (old new : Keys) (moment caller conn : ℕ) (op 
       by_posts : (name : List ℕ) (reply : Reply) (object : Option Hold) (posts : Bool) → unheard reply (if posts then Some (lock_post name) else None) ≡ shown_of name (record { reply = reply; object = object; posts = posts })
       by_posts name reply object true = refl
       by_posts name reply object false = refl
+
       by_outcome : (name : List ℕ) (o : Outcome (Option Hold)) → unheard o.reply (if o.posts then Some (lock_post name) else None) ≡ shown_of name o
       by_outcome name o = by_posts name o.reply o.object o.posts

@@ -8,3 +8,6 @@ mod world;
 pub use lock_server::LockServer;
 pub use top::play_top;
 pub use world::World;
+
+#[cfg(test)]
+mod tests;

@@ -1,4 +1,4 @@
-ghost use Rattle.std.specs.Prelude.{◌≡◌, ◌<◌, ◌≤◌, ◌+◌, [], ◌++◌, length, IfOk, OnOk, OnErr};
+ghost use Rattle.std.specs.Prelude.{◌≡◌, ◌<◌, ◌+◌, [], ◌++◌, IfOk, OnOk, OnErr};
 ghost use Rattle.lr_model.specs.Within.{IsWithin};
 ghost use Rattle.lr_model.specs.Sound.{IsSound};
 ghost use Rattle.lr_model.specs.Transcript.{event_limit};
