@@ -1,53 +1,109 @@
--- A server of locks after one call more.
-use Rattle.std.proofs.Common.{◌≡◌, ℕ, ◌≤◌, max, List, [], ◌∷◌, ◌++◌, Bool, true, false, if◌then◌else◌, Option, Some, None, refl, sym, ap, ◌∙◌, subst, arith}
+-- A call of a world on a connection that may call: what the server answers, and its history afterwards.
+use Rattle.std.proofs.Common.{◌≡◌, ℕ, ◌≤◌, ◌<◌, max, min, List, [], ◌∷◌, ◌++◌, length, Bool, true, false, if◌then◌else◌, ◌&&◌, nat_le, Option, Some, None, refl, sym, ap, ◌∙◌, subst, arith}
+use Rattle.std.proofs.lemmas.Bool.{lt-leb}
 use Rattle.lr_names.specs.declared.post.Post.{Post}
 use Rattle.lr_objects.specs.declared.op.Op.{Op}
 use Rattle.lr_objects.specs.declared.reply.Reply.{Reply}
-use Rattle.lr_keys.specs.KeySpace.{Keys}
+use Rattle.lr_model.specs.declared.entry.Act.TheVariants.{Call}
 use Rattle.lr_model.specs.declared.entry.Entry.{Entry}
-use Rattle.lr_model.specs.declared.hold.Hold.{Hold}
 use Rattle.lr_model.specs.declared.shown.Replied.{Replied}
-use Rattle.lr_model.specs.Mutex.{Outcome}
-use Rattle.lr_model.specs.Answer.{Objects, name_of, outcome_of, reply_of, objects_after, lock_post, post_of}
-use Rattle.lr_model.specs.History.{State, step, after}
-use Rattle.lr_model.specs.World.{first_state, call_entry, replied_at}
-use Rattle.lr_model.proofs.Histories.{after-push}
-use Rattle.lr_model.proofs.Schedules.{posted_quiet}
-use Rattle.lr_mutex.specs.Stands.{StandsFor}
-use Rattle.lr_plain.specs.Shown.{shown_of}
-use Rattle.lr_plain.proofs.Boards.{shown_quiet}
-use Rattle.lr_world.specs.Serving.{IsServing, unheard}
+use Rattle.lr_model.specs.Answer.{reply_of, post_of}
+use Rattle.lr_model.specs.Board.{Board, Connection}
+use Rattle.lr_model.specs.History.{State, started, after, MayFollow, CanCall}
+use Rattle.lr_model.specs.Moment.{later, last_moment}
+use Rattle.lr_model.specs.World.{first_state, call_entry, replied_at, reached_post}
+use Rattle.lr_server.specs.declared.fault.StepFault.{StepFault}
+use Rattle.lr_server.specs.declared.fault.StepFault.TheVariants as faults
+use Rattle.lr_server.specs.declared.answered.Answer.{Answer}
+use Rattle.lr_server.specs.declared.answered.Answer.TheVariants as answers
+use Rattle.lr_server.specs.Server.{Known, state_of, connection_of, known_after, answer_at, post_at, known_at, fault_of, reached_of, is_only_subscribed}
+use Rattle.lr_history.specs.Limit.{is_refused, most_entries}
+use Rattle.lr_world.specs.Shown.{shown_of}
 
-module _ (entries : List Entry) (old new : Keys) (moment caller conn : ℕ) (op : Op) (serving : IsServing entries old) (in_time : (after first_state entries).moment ≤ moment) where
+-- a message with the number of connections that it reaches
+shown_reached : (reply : Reply) (post : Option Post) (board : Board) → shown_of reply post (reached_of post board) ≡ record { reply = reply; post = reached_post board post }
+shown_reached reply None board = refl
+shown_reached reply (Some post) board = refl
+
+module _ (known : Known) (moment caller conn : ℕ) (op : Op) (first : known.last ≡ 128)
+    (may : MayFollow (after first_state known.entries) (call_entry moment caller conn op)) (early : moment ≤ last_moment) where
+  abbrev pub state : State
+  state = after first_state known.entries
+
+  state_is : state_of known ≡ state
+  state_is = ap (λ last. after (started last) known.entries) first
+
   -- the call runs at the moment that was given
-  same_moment : max old.moment moment ≡ moment
-  same_moment = omega (arith, serving.in_time)
+  same_moment : later state.moment moment ≡ moment
+  same_moment =
+      let in_time : state.moment ≤ moment = may.in_time in
+      omega (arith, in_time, early)
 
-  pub serves_on : ((objects : Objects) → StandsFor old objects → StandsFor new (objects_after objects (max old.moment moment) op)) → new.moment ≡ max old.moment moment
-      → IsServing (entries ++ call_entry moment caller conn op ∷ []) new
-  serves_on stands now =
-      let state : State = after first_state entries in
-      let entry : Entry = call_entry moment caller conn op in
-      let pushed : after first_state (entries ++ entry ∷ []) ≡ step state entry = after-push first_state entries entry in
-      record {
-        stands = subst (λ (s : State). StandsFor new s.objects) (sym pushed)
-            (subst (λ m. StandsFor new (objects_after state.objects m op)) same_moment (stands state.objects serving.stands));
-        in_time = subst (λ (s : State). new.moment ≤ s.moment) (sym pushed) (omega (arith, now, same_moment));
-        quiet = λ c. ap (λ (s : State). s.board c) pushed ∙ posted_quiet (post_of state.objects moment op) state.board serving.quiet c;
-      }
+  moment_is : later (state_of known).moment moment ≡ moment
+  moment_is = ap (λ (s : State). later s.moment moment) state_is ∙ same_moment
 
-  pub replies_so : (reply : Reply) (post : Option Post) → ((objects : Objects) → StandsFor old objects → reply ≡ reply_of objects (max old.moment moment) op)
-      → ((objects : Objects) → StandsFor old objects → post ≡ post_of objects (max old.moment moment) op) → unheard reply post ≡ replied_at (after first_state entries) moment op
-  replies_so reply post replies posts =
-      let state : State = after first_state entries in
-      let reply_is : reply ≡ reply_of state.objects moment op = replies state.objects serving.stands ∙ ap (λ m. reply_of state.objects m op) same_moment in
-      let post_is : post ≡ post_of state.objects moment op = posts state.objects serving.stands ∙ ap (λ m. post_of state.objects m op) same_moment in
-      ap (λ r. unheard r post) reply_is ∙ ap (unheard (reply_of state.objects moment op)) post_is
-      ∙ by_outcome (name_of op) (outcome_of state.objects moment op) ∙ sym (shown_quiet state moment op serving.quiet)
-    where
-      by_posts : (name : List ℕ) (reply : Reply) (object : Option Hold) (posts : Bool) → unheard reply (if posts then Some (lock_post name) else None) ≡ shown_of name (record { reply = reply; object = object; posts = posts })
-      by_posts name reply object true = refl
-      by_posts name reply object false = refl
+  -- the connection has no channel
+  calls : is_only_subscribed (Call op) (connection_of known conn) ≡ false
+  calls = ap (λ (s : State). nat_le 1 (length (s.board conn).channels)) state_is ∙ ap (λ channels. nat_le 1 (length channels)) may.allowed.quiet
 
-      by_outcome : (name : List ℕ) (o : Outcome (Option Hold)) → unheard o.reply (if o.posts then Some (lock_post name) else None) ≡ shown_of name o
-      by_outcome name o = by_posts name o.reply o.object o.posts
+  kept : (connection_of known conn).dropped ≡ false
+  kept = ap (λ (s : State). (s.board conn).dropped) state_is ∙ may.allowed.kept
+
+  pub answers_so : answer_at known moment conn (Call op) ≡ answers.Reply (reply_of state.objects moment op)
+  answers_so =
+      ap (λ b. if b then answers.OnlySubscribed else answers.Reply (reply_of (state_of known).objects (later (state_of known).moment moment) op)) calls
+      ∙ ap (λ (s : State). answers.Reply (reply_of s.objects (later s.moment moment) op)) state_is
+      ∙ ap (λ m. answers.Reply (reply_of state.objects m op)) same_moment
+
+  pub posts_so : post_at known moment conn (Call op) ≡ post_of state.objects moment op
+  posts_so =
+      ap (λ b. if b then None else post_of (state_of known).objects (later (state_of known).moment moment) op) calls
+      ∙ ap (λ (s : State). post_of s.objects (later s.moment moment) op) state_is
+      ∙ ap (λ m. post_of state.objects m op) same_moment
+
+  pub known_so : known_at known moment caller conn (Call op) ≡ record { last = known.last; entries = known.entries ++ call_entry moment caller conn op ∷ [] }
+  known_so =
+      ap (λ b. if b then known else known_after known moment caller conn (Call op)) calls
+      ∙ ap (λ m. record { last = known.last; entries = known.entries ++ call_entry m caller conn op ∷ [] }) moment_is
+
+  pub faults_so : length known.entries < 2000000 → fault_of known conn (Call op) ≡ None
+  faults_so room =
+      let not_full : nat_le most_entries (length known.entries) ≡ false = lt-leb most_entries (length known.entries) room in
+      ap (λ b. if b then None else if nat_le most_entries (length known.entries) then Some faults.HistoryFull else if (connection_of known conn).dropped then Some faults.Dropped else None) calls
+      ∙ ap (λ b. if b then Some faults.HistoryFull else if (connection_of known conn).dropped then Some faults.Dropped else None) not_full
+      ∙ ap (λ b. if b then Some faults.Dropped else None) kept
+
+  pub shows_so : (answer : Reply) (post : Option Post) (reached : ℕ) → answer ≡ reply_of state.objects moment op → post ≡ post_at known moment conn (Call op)
+      → reached ≡ reached_of (post_at known moment conn (Call op)) (state_of known).board → shown_of answer post reached ≡ replied_at state moment op
+  shows_so answer post reached answer_is post_is reached_is =
+      let sent : post ≡ post_of state.objects moment op = post_is ∙ posts_so in
+      let met : reached ≡ reached_of (post_of state.objects moment op) state.board =
+          reached_is ∙ ap (λ p. reached_of p (state_of known).board) posts_so ∙ ap (λ (s : State). reached_of (post_of state.objects moment op) s.board) state_is in
+      ap (λ a. shown_of a post reached) answer_is
+      ∙ ap (λ p. shown_of (reply_of state.objects moment op) p reached) sent
+      ∙ ap (shown_of (reply_of state.objects moment op) (post_of state.objects moment op)) met
+      ∙ shown_reached (reply_of state.objects moment op) (post_of state.objects moment op) state.board
+
+-- the reply of an answer
+abbrev replied_in : Reply → Answer → Reply
+replied_in other (answers.Reply reply) = reply
+replied_in other (answers.Queued channels) = other
+replied_in other answers.OnlySubscribed = other
+
+pub same_reply : (a b : Reply) → answers.Reply a ≡ answers.Reply b → a ≡ b
+same_reply a b same = ap (replied_in a) same
+
+-- no fault is found where there is none
+abbrev IsNoFault : Option StepFault → Type 0
+IsNoFault None = Unit {0}
+IsNoFault (Some fault) = ⊥
+
+pub none_some : (found : Option StepFault) (fault : StepFault) → found ≡ None → found ≡ Some fault → ⊥
+none_some found fault none some = subst IsNoFault (sym none ∙ some) tt
+
+-- a fault that has no other cause is want of memory
+pub only_memory : (fault : StepFault) → (fault ≡ faults.HistoryFull → ⊥) → (fault ≡ faults.Dropped → ⊥) → (fault ≡ faults.TooManyConnections → ⊥) → fault ≡ faults.NoMemory
+only_memory faults.NoMemory full dropped many = refl
+only_memory faults.HistoryFull full dropped many = absurd (full refl)
+only_memory faults.Dropped full dropped many = absurd (dropped refl)
+only_memory faults.TooManyConnections full dropped many = absurd (many refl)

@@ -1,13 +1,13 @@
 //! The world of a schedule, and its run from bytes to bytes.
 #![tactic(auto)]
 
-mod lock_server;
 mod top;
 mod world;
+mod world_server;
 
-pub use lock_server::LockServer;
 pub use top::play_top;
 pub use world::World;
+pub use world_server::WorldServer;
 
 #[cfg(test)]
 mod tests;

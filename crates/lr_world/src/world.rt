@@ -1,14 +1,14 @@
-ghost use Rattle.std.specs.Prelude.{◌≡◌, ◌<◌, ◌+◌, [], ◌++◌, IfOk, OnOk, OnErr};
+ghost use Rattle.std.specs.Prelude.{◌≡◌, ◌<◌, ◌≤◌, ◌+◌, [], ◌++◌, length, IfOk, OnOk, OnErr};
 ghost use Rattle.lr_model.specs.Within.{IsWithin};
 ghost use Rattle.lr_model.specs.Sound.{IsSound};
 ghost use Rattle.lr_model.specs.Transcript.{event_limit};
 ghost use Rattle.lr_model.specs.World.{shown, next, signed, acts_of};
 ghost use Rattle.lr_machine.specs.Machine.{world_of};
 
-use crate::lock_server::LockServer;
-use lr_history::History;
+use crate::world_server::WorldServer;
 use lr_machine::Machine;
 use lr_model::{Event, Shown};
+use lr_server::History;
 use std::alloc::{AllocError, Global};
 use std::marker::Model;
 
@@ -17,7 +17,7 @@ use std::marker::Model;
 /// 2c - 1.
 #[derive(Drop)]
 pub struct World {
-    machine: Machine<LockServer>,
+    machine: Machine<WorldServer>,
 }
 
 impl Model for World {
@@ -33,7 +33,7 @@ impl World {
     pub fn new(alloc: Global) -> Result<World, AllocError>
         ensures { IfOk result (λ w. w ≡ record { entries = []; moment = 0; requests = []; applied = 0 }) }
     {
-        let server = LockServer::new(alloc)?;
+        let server = WorldServer::new(alloc)?;
         Ok(World {
             machine: Machine::over(alloc, server),
         })
@@ -53,8 +53,13 @@ impl World {
         ensures sound { IsSound (world_of self.new) }
         // It has what the event made the server do, for whom, and nothing else.
         ensures once { OnOk result (signed self.new.entries ≡ signed self.old.entries ++ acts_of (world_of self.old) event.now) }
+        // Each event makes one entry at most, so that no event finds a full history.
+        ensures few { length self.new.entries ≤ self.new.applied + 128 }
     {
-        self.machine.apply(event)
+        let shown = self.machine.apply(event);
+        // `applied` is called for its clause.
+        let _applied = self.machine.applied();
+        shown
     }
 
     /// What the server has done, in order.
@@ -65,7 +70,7 @@ impl World {
     }
 
     // The machine alone.
-    pub fn into_machine(self) -> Machine<LockServer>
+    pub fn into_machine(self) -> Machine<WorldServer>
         ensures { result ≡ self }
     {
         let World { machine } = self;

@@ -1,0 +1,4 @@
+pub mod Allowed
+pub mod Calls
+pub mod Numbers
+pub mod Serves

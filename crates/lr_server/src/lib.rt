@@ -1,0 +1,18 @@
+//! One state of the server: keys, connections with their channels and outboxes, and the stored history. Each request is
+//! one step, which makes at most one entry of the history.
+#![tactic(auto)]
+
+mod answered;
+mod change;
+mod fault;
+mod state;
+
+pub use answered::{Answer, Answered};
+pub use fault::StepFault;
+pub use lr_commands::{Channels, Request};
+pub use lr_history::History;
+pub use lr_pubsub::{Conns, Pushes};
+pub use state::ServerState;
+
+#[cfg(test)]
+mod tests;

@@ -1,0 +1,383 @@
+ghost use Rattle.std.specs.Prelude.{◌≡◌, ◌≢◌, ◌↔◌, ◌<◌, ◌≤◌, ◌+◌, ◌++◌, ◌∷◌, false, nat_le, [], Some, IsTrue, IsSome, length, take, IsOk, IfOk, OnOk, OnErr};
+ghost use Rattle.lr_model.specs.declared.entry.Act.{Act};
+ghost use Rattle.lr_model.specs.declared.entry.Act.TheVariants as acts;
+ghost use Rattle.lr_model.specs.Board.{is_open, free_numbers};
+ghost use Rattle.lr_model.specs.History.{started, next_number, CanDrain, IsAllowed, IsLegal};
+ghost use Rattle.lr_history.specs.Limit.{is_refused, most_entries};
+ghost use Rattle.lr_model.specs.Moment.{last_moment, later};
+ghost use Rattle.lr_pubsub.specs.Listed.{is_in_flight};
+ghost use Rattle.lr_server.specs.Server.{state_of, connection_of, known_after, known_at, drained_at, act_of, answer_of, post_by, answer_at, post_at, reached_of, dropped_of, fault_of, drain_fault, is_asked, is_only_subscribed, is_stopped, takes_some};
+
+use crate::answered::{Answer, Answered};
+use crate::change::{act_of, change};
+use crate::fault::StepFault;
+use lr_commands::Request;
+use lr_history::{Act, Entry, History, MOST_ENTRIES};
+use lr_keys::{KeySpace, MAX_MOMENT};
+use lr_names::Channel;
+use lr_pubsub::{Board, Pushes};
+use std::alloc::{AllocError, Global};
+use std::marker::Model;
+
+/// So many entries find room before each step: its own, and a close of each connection behind it.
+const ROOM: u64 = 257;
+
+/// A server: its keys, its connections, and all that it did since it started.
+#[derive(Drop)]
+pub struct ServerState {
+    alloc: Global,
+    // the connections 0 to this one were open when it started
+    last: u32,
+    moment: u64,
+    keys: KeySpace,
+    board: Board,
+    history: History,
+}
+
+impl Model for ServerState {
+    ghost use Rattle.lr_server.specs.Server.{Known};
+    ghost use Rattle.lr_server.specs.Serving.{IsServing};
+
+    ghost Value = { Known };
+
+    ghost view = { λ s. record { last = s.last; entries = s.history.entries } };
+
+    ghost invariant = { λ s. IsServing (record { last = s.last; entries = s.history.entries }) s.moment s.keys s.board s.history.spare };
+}
+
+impl ServerState {
+    /// A server at moment 0 with an empty history and the connections 0 to `last` open, by caller 0.
+    pub fn new(alloc: Global, last: u32) -> Result<Self, AllocError>
+        requires { last < 256 }
+        ensures { IfOk result (λ s. s ≡ record { last = last; entries = [] }) }
+    {
+        let mut history = History::new(alloc)?;
+        history.reserve(ROOM)?;
+        Ok(ServerState {
+            alloc,
+            last,
+            moment: 0,
+            keys: KeySpace::new(alloc)?,
+            board: Board::new(alloc, last)?,
+            history,
+        })
+    }
+
+    /// Opens a connection for a caller, and gives its number: the least that is free. `TooManyConnections` comes exactly
+    /// where 256 are open, and `HistoryFull` exactly where fewer are and the history takes only closes. An error changes
+    /// nothing.
+    pub fn open(&mut self, moment: u64, caller: u64) -> Result<u32, StepFault>
+        ensures number { IfOk result (λ conn. conn ≡ next_number (state_of self.old).board) }
+        ensures entry { OnOk result (self.new ≡ known_after self.old moment caller (next_number (state_of self.old).board) acts.Open) }
+        ensures too_many { (result ≡ Err StepFault.TooManyConnections) ↔ (free_numbers (state_of self.old).board ≡ []) }
+        ensures full { (result ≡ Err StepFault.HistoryFull)
+            ↔ (free_numbers (state_of self.old).board ≢ []) × IsTrue (is_refused self.old.entries acts.Open) }
+        ensures not_dropped { result ≢ Err StepFault.Dropped }
+        ensures err { OnErr result (self.new ≡ self.old) }
+    {
+        let Some(conn) = self.board.next_free() else {
+            return Err(StepFault::TooManyConnections);
+        };
+        if self.is_full() {
+            return Err(StepFault::HistoryFull);
+        }
+        let at = self.later(moment);
+        self.history.reserve(ROOM)?;
+        self.board.open(conn, caller);
+        let act = Act::Open;
+        append(
+            &mut self.history,
+            &mut self.moment,
+            Entry {
+                moment: at,
+                caller,
+                conn,
+                act,
+            },
+        );
+        Ok(conn)
+    }
+
+    /// Does what a request of an open connection asks, for a caller. It is a call, or one channel is subscribed to or left.
+    ///
+    /// `OnlySubscribed` is answered exactly where a connection that has a channel calls; it makes no entry. Of the faults,
+    /// `HistoryFull` comes exactly where an entry would be made and the history takes only closes; else `Dropped` exactly
+    /// where the connection was dropped, or should send an acknowledgement and its outbox is full. An error changes nothing.
+    pub fn step(
+        &mut self,
+        moment: u64,
+        caller: u64,
+        conn: u32,
+        request: &Request,
+    ) -> Result<Answered, StepFault>
+        requires open { IsTrue (is_open (connection_of self.old conn)) }
+        requires request { IsSome (act_of request.now) }
+        ensures answer { (act : Act) → act_of request.now ≡ Some act → IfOk result (λ a. a.answer ≡ answer_at self.old moment conn act) }
+        ensures post { (act : Act) → act_of request.now ≡ Some act → IfOk result (λ a. a.post ≡ post_at self.old moment conn act) }
+        ensures reached { (act : Act) → act_of request.now ≡ Some act
+            → IfOk result (λ a. a.reached ≡ reached_of (post_at self.old moment conn act) (state_of self.old).board) }
+        ensures dropping { (act : Act) → act_of request.now ≡ Some act
+            → IfOk result (λ a. a.dropped ≡ dropped_of (post_at self.old moment conn act) (state_of self.old).board) }
+        ensures entry { (act : Act) → act_of request.now ≡ Some act → OnOk result (self.new ≡ known_at self.old moment caller conn act) }
+
+        // Each fault but want of memory has its cause.
+        ensures full { (act : Act) → act_of request.now ≡ Some act
+            → (result ≡ Err StepFault.HistoryFull) ↔ (fault_of self.old conn act ≡ Some StepFault.HistoryFull) }
+        ensures dropped { (act : Act) → act_of request.now ≡ Some act
+            → (result ≡ Err StepFault.Dropped) ↔ (fault_of self.old conn act ≡ Some StepFault.Dropped) }
+        ensures not_too_many { result ≢ Err StepFault.TooManyConnections }
+        ensures subscriber { (act : Act) → act_of request.now ≡ Some act → IsTrue (is_only_subscribed act (connection_of self.old conn)) → IsOk result }
+        ensures err { OnErr result (self.new ≡ self.old) }
+    {
+        self.act(moment, caller, conn, act_of(request))
+    }
+
+    /// Takes the first items of the outbox of an open connection, at most so many, for a caller. A drain that takes nothing
+    /// makes no entry, and takes no memory.
+    ///
+    /// `HistoryFull` comes exactly where it would take something and the history takes only closes; else `Dropped` exactly
+    /// where the connection was dropped. An error changes nothing.
+    pub fn drain(
+        &mut self,
+        moment: u64,
+        caller: u64,
+        conn: u32,
+        most: u32,
+    ) -> Result<Pushes, StepFault>
+        requires { IsTrue (is_open (connection_of self.old conn)) }
+        ensures items { IfOk result (λ items. items ≡ take most (connection_of self.old conn).outbox) }
+        ensures entry { OnOk result (self.new ≡ drained_at self.old moment caller conn most) }
+        ensures full { (result ≡ Err StepFault.HistoryFull) ↔ (drain_fault self.old conn most ≡ Some StepFault.HistoryFull) }
+        ensures dropped { (result ≡ Err StepFault.Dropped) ↔ (drain_fault self.old conn most ≡ Some StepFault.Dropped) }
+        ensures not_too_many { result ≢ Err StepFault.TooManyConnections }
+        ensures idle { (connection_of self.old conn).dropped ≡ false → takes_some most (connection_of self.old conn) ≡ false → IsOk result }
+        ensures err { OnErr result (self.new ≡ self.old) }
+    {
+        if let Some(fault) = self.drain_fault(conn, most) {
+            return Err(fault);
+        }
+        if !self.takes_some(conn, most) {
+            return Ok(Pushes::new(self.alloc));
+        }
+        match self.take(moment, caller, conn, most) {
+            Ok(pushes) => Ok(pushes),
+            Err(_) => Err(StepFault::NoMemory),
+        }
+    }
+
+    /// Closes an open connection for a caller. It takes no memory and is never refused.
+    pub fn close(&mut self, moment: u64, caller: u64, conn: u32)
+        requires { IsTrue (is_open (connection_of self.old conn)) }
+        ensures { self.new ≡ known_after self.old moment caller conn acts.Close }
+    {
+        let at = self.later(moment);
+        self.board.close(conn);
+        let act = Act::Close;
+        append(
+            &mut self.history,
+            &mut self.moment,
+            Entry {
+                moment: at,
+                caller,
+                conn,
+                act,
+            },
+        );
+    }
+
+    /// The moment of the last step, in milliseconds: 0 before the first.
+    pub fn moment(&self) -> u64
+        ensures { result ≡ (state_of self.now).moment }
+    {
+        self.moment
+    }
+
+    /// What the server has done, in order.
+    pub fn history(&self) -> &History
+        ensures entries { result.now.entries ≡ self.now.entries }
+        ensures legal { IsLegal (started self.now.last) self.now.entries }
+    {
+        &self.history
+    }
+
+    /// How many channels a connection has.
+    pub fn subscribed(&self, conn: u32) -> usize
+        ensures { result ≡ length (connection_of self.now conn).channels }
+    {
+        self.board.channel_count(conn)
+    }
+
+    /// Who opened a connection: `None` exactly where it isn't open.
+    pub fn opener(&self, conn: u32) -> Option<u64>
+        ensures { result ≡ (connection_of self.now conn).opener }
+    {
+        self.board.opener(conn)
+    }
+
+    /// Whether a message of a channel waits in a connection's outbox.
+    pub fn in_flight(&self, conn: u32, channel: &Channel) -> bool
+        ensures { result ≡ is_in_flight channel.now (connection_of self.now conn) }
+    {
+        self.board.in_flight(conn, channel)
+    }
+
+    // Whether the history takes only closes.
+    fn is_full(&self) -> bool
+        ensures { result ≡ nat_le most_entries (length self.now.entries) }
+    {
+        self.history.len() >= MOST_ENTRIES
+    }
+
+    // The moment of a step at this reading of the clock.
+    fn later(&self, reading: u64) -> u64
+        ensures value { result ≡ later (state_of self.now).moment reading }
+        ensures early { result ≤ last_moment }
+    {
+        self.moment.max(reading.min(MAX_MOMENT))
+    }
+
+    // Whether a call comes from a connection that only subscribes.
+    fn is_only_subscribed(&self, conn: u32, act: &Act) -> bool
+        ensures { result ≡ is_only_subscribed act.now (connection_of self.now conn) }
+    {
+        matches!(act, Act::Call(_)) && self.board.channel_count(conn) >= 1
+    }
+
+    // Whether a connection that was dropped, or reads too slowly, stops an act.
+    fn is_stopped(&self, conn: u32, act: &Act) -> bool
+        ensures { result ≡ is_stopped act.now (connection_of self.now conn) }
+    {
+        match act {
+            Act::Call(_) | Act::Drain(_) => self.board.is_dropped(conn),
+            Act::Subscribe(_) | Act::Unsubscribe(_) => self.board.is_shut(conn),
+            Act::Open | Act::Close => false,
+        }
+    }
+
+    // Whether a drain takes something.
+    fn takes_some(&self, conn: u32, most: u32) -> bool
+        ensures { result ≡ takes_some most (connection_of self.now conn) }
+    {
+        most >= 1 && self.board.waiting(conn) >= 1
+    }
+
+    // The fault of a drain. Memory may be wanting besides.
+    fn drain_fault(&self, conn: u32, most: u32) -> Option<StepFault>
+        ensures { result ≡ drain_fault self.now conn most }
+    {
+        if self.takes_some(conn, most) && self.is_full() {
+            return Some(StepFault::HistoryFull);
+        }
+        if self.board.is_dropped(conn) {
+            return Some(StepFault::Dropped);
+        }
+        None
+    }
+
+    // Does an act of an open connection: what `step` promises.
+    fn act(&mut self, moment: u64, caller: u64, conn: u32, act: Act) -> Result<Answered, StepFault>
+        requires open { IsTrue (is_open (connection_of self.old conn)) }
+        requires asked { IsTrue (is_asked act) }
+        ensures answer { IfOk result (λ a. a.answer ≡ answer_at self.old moment conn act) }
+        ensures post { IfOk result (λ a. a.post ≡ post_at self.old moment conn act) }
+        ensures reached { IfOk result (λ a. a.reached ≡ reached_of (post_at self.old moment conn act) (state_of self.old).board) }
+        ensures dropping { IfOk result (λ a. a.dropped ≡ dropped_of (post_at self.old moment conn act) (state_of self.old).board) }
+        ensures entry { OnOk result (self.new ≡ known_at self.old moment caller conn act) }
+        ensures full { (result ≡ Err StepFault.HistoryFull) ↔ (fault_of self.old conn act ≡ Some StepFault.HistoryFull) }
+        ensures dropped { (result ≡ Err StepFault.Dropped) ↔ (fault_of self.old conn act ≡ Some StepFault.Dropped) }
+        ensures not_too_many { result ≢ Err StepFault.TooManyConnections }
+        ensures subscriber { IsTrue (is_only_subscribed act (connection_of self.old conn)) → IsOk result }
+        ensures err { OnErr result (self.new ≡ self.old) }
+    {
+        if self.is_only_subscribed(conn, &act) {
+            return Ok(Answered::of(self.alloc, Answer::OnlySubscribed));
+        }
+        if self.is_full() {
+            return Err(StepFault::HistoryFull);
+        }
+        if self.is_stopped(conn, &act) {
+            return Err(StepFault::Dropped);
+        }
+        match self.perform(moment, caller, conn, act) {
+            Ok(answered) => Ok(answered),
+            Err(_) => Err(StepFault::NoMemory),
+        }
+    }
+
+    // Does an act that may be done. All memory is taken before the first change.
+    fn perform(
+        &mut self,
+        moment: u64,
+        caller: u64,
+        conn: u32,
+        act: Act,
+    ) -> Result<Answered, AllocError>
+        requires asked { IsTrue (is_asked act) }
+        requires allowed { IsAllowed (state_of self.old) conn act }
+        requires room { is_refused self.old.entries act ≡ false }
+        ensures answer { IfOk result (λ a. a.answer ≡ answer_of (state_of self.old) (later (state_of self.old).moment moment) conn act) }
+        ensures post { IfOk result (λ a. a.post ≡ post_by (state_of self.old) (later (state_of self.old).moment moment) act) }
+        ensures reached { IfOk result (λ a. a.reached ≡ reached_of (post_by (state_of self.old) (later (state_of self.old).moment moment) act) (state_of self.old).board) }
+        ensures dropping { IfOk result (λ a. a.dropped ≡ dropped_of (post_by (state_of self.old) (later (state_of self.old).moment moment) act) (state_of self.old).board) }
+        ensures entry { OnOk result (self.new ≡ known_after self.old moment caller conn act) }
+        ensures err { OnErr result (self.new ≡ self.old) }
+    {
+        let at = self.later(moment);
+        self.history.reserve(ROOM)?;
+        let answered = match change(self.alloc, &mut self.keys, &mut self.board, at, conn, &act) {
+            Ok(answered) => answered,
+            Err(fault) => return Err(fault),
+        };
+        append(
+            &mut self.history,
+            &mut self.moment,
+            Entry {
+                moment: at,
+                caller,
+                conn,
+                act,
+            },
+        );
+        Ok(answered)
+    }
+
+    // Takes something from an outbox. All memory is taken before the first change.
+    fn take(&mut self, moment: u64, caller: u64, conn: u32, most: u32) -> Result<Pushes, AllocError>
+        requires allowed { CanDrain (connection_of self.old conn) most }
+        requires room { is_refused self.old.entries (acts.Drain most) ≡ false }
+        ensures items { IfOk result (λ items. items ≡ take most (connection_of self.old conn).outbox) }
+        ensures entry { OnOk result (self.new ≡ known_after self.old moment caller conn (acts.Drain most)) }
+        ensures err { OnErr result (self.new ≡ self.old) }
+    {
+        let at = self.later(moment);
+        self.history.reserve(ROOM)?;
+        let pushes = match self.board.drain(conn, most) {
+            Ok(pushes) => pushes,
+            Err(_) => return Err(AllocError),
+        };
+        let act = Act::Drain(most);
+        append(
+            &mut self.history,
+            &mut self.moment,
+            Entry {
+                moment: at,
+                caller,
+                conn,
+                act,
+            },
+        );
+        Ok(pushes)
+    }
+}
+
+// Appends an entry for which there is room, and goes on to its moment.
+fn append(history: &mut History, now: &mut u64, entry: Entry)
+    requires spare { 0 < history.old.spare }
+    requires room { is_refused history.old.entries entry.act ≡ false }
+    ensures entries { history.new.entries ≡ history.old.entries ++ entry ∷ [] }
+    ensures spare { history.new.spare + 1 ≡ history.old.spare }
+    ensures moment { now.new ≡ entry.moment }
+{
+    *now = entry.moment;
+    history.push(entry).unwrap();
+}
