@@ -1,7 +1,7 @@
 ghost use Rattle.std.specs.Prelude.{IsSome};
 ghost use Rattle.lr_server.specs.Server.{act_of};
 
-use super::*;
+use crate::{Answer, Channels, Request, ServerState, StepFault};
 use lr_names::{Channel, Kind, Name, Owner, Push, Wakes};
 use lr_objects::{Op, Reply};
 use std::test::Fail;
@@ -39,10 +39,8 @@ fn takes(server: &mut ServerState, conn: u32, wanted: &[Push]) -> Result<bool, S
 
 #[test]
 fn a_subscriber_is_told(rt: HostRuntime) -> Result<(), Fail> {
-    let (Ok(name), Ok(owner)) = (Name::parse(b"a"), Owner::parse(OWNER)) else {
-        assert!(rt; false);
-        return Ok(());
-    };
+    let name = Name::parse(b"a")?;
+    let owner = Owner::parse(OWNER)?;
     let channel = Channel::of(Kind::Mutex, &name);
     let mut channels = Channels::new(rt.alloc());
     channels.push(channel)?;
