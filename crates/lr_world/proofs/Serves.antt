@@ -1,15 +1,13 @@
 -- A call of a world on a connection that may call: what the server answers, and its history afterwards.
-use Rattle.std.proofs.Common.{◌≡◌, ℕ, ◌≤◌, ◌<◌, max, min, List, [], ◌∷◌, ◌++◌, length, Bool, true, false, if◌then◌else◌, ◌&&◌, nat_le, Option, Some, None, refl, sym, ap, ◌∙◌, subst, arith}
+use Rattle.std.proofs.Common.{◌≡◌, ℕ, ◌≤◌, ◌<◌, [], ◌∷◌, ◌++◌, length, false, if◌then◌else◌, nat_le, Option, Some, None, refl, sym, ap, ◌∙◌, subst, arith}
 use Rattle.std.proofs.lemmas.Bool.{lt-leb}
 use Rattle.lr_names.specs.declared.post.Post.{Post}
 use Rattle.lr_objects.specs.declared.op.Op.{Op}
 use Rattle.lr_objects.specs.declared.reply.Reply.{Reply}
 use Rattle.lr_model.specs.declared.entry.Act.TheVariants.{Call}
-use Rattle.lr_model.specs.declared.entry.Entry.{Entry}
-use Rattle.lr_model.specs.declared.shown.Replied.{Replied}
 use Rattle.lr_model.specs.Answer.{reply_of, post_of}
-use Rattle.lr_model.specs.Board.{Board, Connection}
-use Rattle.lr_model.specs.History.{State, started, after, MayFollow, CanCall}
+use Rattle.lr_model.specs.Board.{Board}
+use Rattle.lr_model.specs.History.{State, started, after, MayFollow}
 use Rattle.lr_model.specs.Moment.{later, last_moment}
 use Rattle.lr_model.specs.World.{first_state, call_entry, replied_at, reached_post}
 use Rattle.lr_server.specs.declared.fault.StepFault.{StepFault}
@@ -17,7 +15,7 @@ use Rattle.lr_server.specs.declared.fault.StepFault.TheVariants as faults
 use Rattle.lr_server.specs.declared.answered.Answer.{Answer}
 use Rattle.lr_server.specs.declared.answered.Answer.TheVariants as answers
 use Rattle.lr_server.specs.Server.{Known, state_of, connection_of, known_after, answer_at, post_at, known_at, fault_of, reached_of, is_only_subscribed}
-use Rattle.lr_history.specs.Limit.{is_refused, most_entries}
+use Rattle.lr_history.specs.Limit.{most_entries}
 use Rattle.lr_world.specs.Shown.{shown_of}
 
 -- a message with the number of connections that it reaches
@@ -78,7 +76,7 @@ module _ (known : Known) (moment caller conn : ℕ) (op : Op) (first : known.las
   shows_so answer post reached answer_is post_is reached_is =
       let sent : post ≡ post_of state.objects moment op = post_is ∙ posts_so in
       let met : reached ≡ reached_of (post_of state.objects moment op) state.board =
-          reached_is ∙ ap (λ p. reached_of p (state_of known).board) posts_so ∙ ap (λ (s : State). reached_of (post_of state.objects moment op) s.board) state_is in
+      reached_is ∙ ap (λ p. reached_of p (state_of known).board) posts_so ∙ ap (λ (s : State). reached_of (post_of state.objects moment op) s.board) state_is in
       ap (λ a. shown_of a post reached) answer_is
       ∙ ap (λ p. shown_of (reply_of state.objects moment op) p reached) sent
       ∙ ap (shown_of (reply_of state.objects moment op) (post_of state.objects moment op)) met

@@ -83,11 +83,7 @@ fn call(
     ensures err { OnErr result (state.new ≡ state.old) }
 {
     match state.step(moment, caller, conn, &Request::Call(*op)) {
-        Ok(answered) => Ok(shown_of(
-            reply_of(&answered.answer),
-            answered.post,
-            answered.reached,
-        )),
+        Ok(answered) => Ok(shown_of(reply_of(&answered.answer), answered.post, answered.reached)),
         Err(fault) => Err(no_memory(fault)),
     }
 }
