@@ -4,7 +4,8 @@ use Rattle.std.specs.Prelude.{ℕ, List, [], ◌∷◌, ◌==◌, nat_lt, not, f
 -- the numbers with one more, before the first that is greater
 abbrev pub with_number : ℕ → List ℕ → List ℕ
 with_number number [] = number ∷ []
-with_number number (other ∷ numbers) = if nat_lt number other then number ∷ other ∷ numbers else other ∷ with_number number numbers
+with_number number (other ∷ numbers) =
+    if nat_lt number other then number ∷ other ∷ numbers else other ∷ with_number number numbers
 
 -- the numbers without one
 abbrev pub without_number : ℕ → List ℕ → List ℕ

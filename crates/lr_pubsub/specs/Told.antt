@@ -11,7 +11,8 @@ is_listed numbers number = list_any (λ other. other == number) numbers
 
 -- a connection with a message more, if its outbox takes one
 abbrev pub with_message : Post → Connection → Connection
-with_message post connection = if has_room connection then with_item (Message post.channel post.wakes) connection else connection
+with_message post connection =
+    if has_room connection then with_item (Message post.channel post.wakes) connection else connection
 
 -- the board when a message was sent to these, and those with full outboxes not dropped yet
 abbrev pub told_so : Post → List ℕ → Board → Board

@@ -96,7 +96,8 @@ impl Board {
     /// acknowledgement waits in its outbox; a repeat is acknowledged again. An error changes nothing.
     pub fn subscribe(&mut self, conn: u32, channel: &Channel) -> Result<u32, BoardFault>
         requires { IsTrue (is_open (board_of self.old conn)) }
-        ensures ok { OnOk result (board_of self.new ≡ with_connection (board_of self.old) conn (subscribed channel.now (board_of self.old conn))) }
+        ensures ok { OnOk result (board_of self.new
+            ≡ with_connection (board_of self.old) conn (subscribed channel.now (board_of self.old conn))) }
         ensures count { IfOk result (λ n. n ≡ length (with_channel channel.now (board_of self.old conn))) }
         ensures dropped { (result ≡ Err BoardFault.Dropped) ↔ IsTrue (is_shut (board_of self.old conn)) }
         ensures err { OnErr result (self.new.connections ≡ self.old.connections) }
@@ -111,7 +112,8 @@ impl Board {
     /// has. The acknowledgement waits in its outbox. An error changes nothing.
     pub fn unsubscribe(&mut self, conn: u32, channel: &Channel) -> Result<u32, BoardFault>
         requires { IsTrue (is_open (board_of self.old conn)) }
-        ensures ok { OnOk result (board_of self.new ≡ with_connection (board_of self.old) conn (unsubscribed channel.now (board_of self.old conn))) }
+        ensures ok { OnOk result (board_of self.new
+            ≡ with_connection (board_of self.old) conn (unsubscribed channel.now (board_of self.old conn))) }
         ensures count { IfOk result (λ n. n ≡ length (without_channel channel.now (board_of self.old conn))) }
         ensures dropped { (result ≡ Err BoardFault.Dropped) ↔ IsTrue (is_shut (board_of self.old conn)) }
         ensures err { OnErr result (self.new.connections ≡ self.old.connections) }
@@ -154,7 +156,8 @@ impl Board {
     /// nothing.
     pub fn drain(&mut self, conn: u32, most: u32) -> Result<Pushes, BoardFault>
         requires { IsTrue (is_open (board_of self.old conn)) }
-        ensures ok { OnOk result (board_of self.new ≡ with_connection (board_of self.old) conn (drained most (board_of self.old conn))) }
+        ensures ok { OnOk result (board_of self.new
+            ≡ with_connection (board_of self.old) conn (drained most (board_of self.old conn))) }
         ensures items { IfOk result (λ items. items ≡ take most (board_of self.old conn).outbox) }
         ensures dropped { (result ≡ Err BoardFault.Dropped) ↔ IsTrue (board_of self.old conn).dropped }
         ensures err { OnErr result (self.new.connections ≡ self.old.connections) }
@@ -233,7 +236,8 @@ impl Board {
     // nothing.
     fn join(&mut self, conn: u32, channel: &Channel) -> Result<u32, AllocError>
         requires { IsTrue (is_open (board_of self.old conn)) }
-        ensures ok { OnOk result (board_of self.new ≡ with_connection (board_of self.old) conn (subscribed channel.now (board_of self.old conn))) }
+        ensures ok { OnOk result (board_of self.new
+            ≡ with_connection (board_of self.old) conn (subscribed channel.now (board_of self.old conn))) }
         ensures count { IfOk result (λ n. n ≡ length (with_channel channel.now (board_of self.old conn))) }
         ensures err { OnErr result (self.new.connections ≡ self.old.connections) }
     {
@@ -248,7 +252,8 @@ impl Board {
     fn acknowledge(&mut self, conn: u32, channel: &Channel) -> Result<u32, AllocError>
         requires opened { IsTrue (is_open (board_of self.old conn)) }
         requires had { IsTrue (has_channel channel.now (board_of self.old conn)) }
-        ensures ok { OnOk result (board_of self.new ≡ with_connection (board_of self.old) conn (subscribed channel.now (board_of self.old conn))) }
+        ensures ok { OnOk result (board_of self.new
+            ≡ with_connection (board_of self.old) conn (subscribed channel.now (board_of self.old conn))) }
         ensures count { IfOk result (λ n. n ≡ length (with_channel channel.now (board_of self.old conn))) }
         ensures err { OnErr result (self.new.connections ≡ self.old.connections) }
     {
@@ -260,7 +265,8 @@ impl Board {
     fn add_channel(&mut self, conn: u32, channel: &Channel) -> Result<u32, AllocError>
         requires opened { IsTrue (is_open (board_of self.old conn)) }
         requires absent { has_channel channel.now (board_of self.old conn) ≡ false }
-        ensures ok { OnOk result (board_of self.new ≡ with_connection (board_of self.old) conn (subscribed channel.now (board_of self.old conn))) }
+        ensures ok { OnOk result (board_of self.new
+            ≡ with_connection (board_of self.old) conn (subscribed channel.now (board_of self.old conn))) }
         ensures count { IfOk result (λ n. n ≡ length (with_channel channel.now (board_of self.old conn))) }
         ensures err { OnErr result (self.new.connections ≡ self.old.connections) }
     {
@@ -274,7 +280,8 @@ impl Board {
     // Takes a channel from an open connection, whether it has it or not. An error changes nothing.
     fn leave(&mut self, conn: u32, channel: &Channel) -> Result<u32, AllocError>
         requires { IsTrue (is_open (board_of self.old conn)) }
-        ensures ok { OnOk result (board_of self.new ≡ with_connection (board_of self.old) conn (unsubscribed channel.now (board_of self.old conn))) }
+        ensures ok { OnOk result (board_of self.new
+            ≡ with_connection (board_of self.old) conn (unsubscribed channel.now (board_of self.old conn))) }
         ensures count { IfOk result (λ n. n ≡ length (without_channel channel.now (board_of self.old conn))) }
         ensures err { OnErr result (self.new.connections ≡ self.old.connections) }
     {
@@ -287,7 +294,8 @@ impl Board {
     // Takes the first items of the outbox of an open connection. An error changes nothing.
     fn take_first(&mut self, conn: u32, most: u32) -> Result<Pushes, AllocError>
         requires { IsTrue (is_open (board_of self.old conn)) }
-        ensures ok { OnOk result (board_of self.new ≡ with_connection (board_of self.old) conn (drained most (board_of self.old conn))) }
+        ensures ok { OnOk result (board_of self.new
+            ≡ with_connection (board_of self.old) conn (drained most (board_of self.old conn))) }
         ensures items { IfOk result (λ items. items ≡ take most (board_of self.old conn).outbox) }
         ensures err { OnErr result (self.new.connections ≡ self.old.connections) }
     {
@@ -375,7 +383,8 @@ fn make_room(slots: &mut Vec<Slot>, listeners: &[u32]) -> Result<usize, AllocErr
     requires within { All (λ conn. conn < vec_len slots.old) listeners.now }
     ensures same { connections_of slots.new.items ≡ connections_of slots.old.items }
     ensures room { OnOk result (All (HasMemory slots.new.items) listeners.now) }
-    ensures full { IfOk result (λ n. n ≡ length (filter (λ conn. not (has_room (connection_at slots.old.items conn))) listeners.now)) }
+    ensures full { IfOk result (λ n. n
+        ≡ length (filter (λ conn. not (has_room (connection_at slots.old.items conn))) listeners.now)) }
 {
     let mut full: usize = 0;
     for conn in listeners {
@@ -408,7 +417,8 @@ fn tell_all(slots: &mut Vec<Slot>, listeners: &[u32], post: &Post, full: &mut Ve
     requires opened { All (λ conn. IsTrue (is_open (connection_at slots.old.items conn))) listeners.now }
     requires ready { IsReady slots.old.items listeners.now full.old.items (vec_capacity full.old) }
     ensures many { vec_len slots.new ≡ vec_len slots.old }
-    ensures board { (conn : ℕ) → connection_at slots.new.items conn ≡ told_so post.now listeners.now (connection_at slots.old.items) conn }
+    ensures board { (conn : ℕ) → connection_at slots.new.items conn
+        ≡ told_so post.now listeners.now (connection_at slots.old.items) conn }
     ensures reached { result ≡ length (filter (λ conn. has_room (connection_at slots.old.items conn)) listeners.now) }
     ensures full { full.new.items ≡ filter (λ conn. not (has_room (connection_at slots.old.items conn))) listeners.now }
 {

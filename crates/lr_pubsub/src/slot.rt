@@ -139,7 +139,8 @@ impl Slot {
     /// Acknowledges a channel that the connection has. An error changes nothing.
     pub(crate) fn acknowledge(&mut self, channel: &Channel) -> Result<u32, AllocError>
         requires { IsTrue (is_open self.old.connection) }
-        ensures ok { OnOk result (self.new.connection ≡ acknowledged self.old.connection.channels (Subscribed channel.now (length self.old.connection.channels)) self.old.connection) }
+        ensures ok { let channels = self.old.connection.channels in OnOk result (self.new.connection
+            ≡ acknowledged channels (Subscribed channel.now (length channels)) self.old.connection) }
         ensures count { IfOk result (λ n. n ≡ length self.old.connection.channels) }
         ensures err { OnErr result (self.new.connection ≡ self.old.connection) }
     {
@@ -165,7 +166,8 @@ impl Slot {
         requires open { IsTrue (is_open self.old.connection) }
         requires room { 0 < self.old.room }
         requires channel { 0 < self.old.channel_room }
-        ensures joined { self.new.connection ≡ acknowledged (self.old.connection.channels ++ channel.now ∷ []) (Subscribed channel.now (length (self.old.connection.channels ++ channel.now ∷ []))) self.old.connection }
+        ensures joined { let channels = self.old.connection.channels ++ channel.now ∷ [] in
+            self.new.connection ≡ acknowledged channels (Subscribed channel.now (length channels)) self.old.connection }
         ensures count { result ≡ length (self.old.connection.channels ++ channel.now ∷ []) }
     {
         self.channels.push_reserved(*channel);

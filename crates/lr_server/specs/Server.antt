@@ -37,9 +37,14 @@ connection_of known conn = (state_of known).board conn
 abbrev pub with_entry : Known → Entry → Known
 with_entry known entry = record { last = known.last; entries = known.entries ++ entry ∷ [] }
 
--- the entry that an act makes: at the moment of the reading, or the server's where that is later
+-- the moment of a step at a reading of the clock: the server's own, where that is later
+abbrev pub moment_at : Known → ℕ → ℕ
+moment_at known reading = later (state_of known).moment reading
+
+-- the entry that an act makes
 abbrev pub entry_of : Known → ℕ → ℕ → ℕ → Act → Entry
-entry_of known moment caller conn act = record { moment = later (state_of known).moment moment; caller = caller; conn = conn; act = act }
+entry_of known reading caller conn act =
+    record { moment = moment_at known reading; caller = caller; conn = conn; act = act }
 
 -- the server after an act
 abbrev pub known_after : Known → ℕ → ℕ → ℕ → Act → Known
@@ -105,7 +110,8 @@ fault_of known conn act =
 abbrev pub answer_of : State → ℕ → ℕ → Act → Answer
 answer_of state moment conn (acts.Call op) = answers.Reply (reply_of state.objects moment op)
 answer_of state moment conn (acts.Subscribe channel) = answers.Queued (length (with_channel channel (state.board conn)))
-answer_of state moment conn (acts.Unsubscribe channel) = answers.Queued (length (without_channel channel (state.board conn)))
+answer_of state moment conn (acts.Unsubscribe channel) =
+    answers.Queued (length (without_channel channel (state.board conn)))
 answer_of state moment conn acts.Open = answers.OnlySubscribed
 answer_of state moment conn acts.Close = answers.OnlySubscribed
 answer_of state moment conn (acts.Drain most) = answers.OnlySubscribed
@@ -134,13 +140,13 @@ dropped_of None board = []
 abbrev pub answer_at : Known → ℕ → ℕ → Act → Answer
 answer_at known moment conn act =
     if is_only_subscribed act (connection_of known conn) then answers.OnlySubscribed
-    else answer_of (state_of known) (later (state_of known).moment moment) conn act
+    else answer_of (state_of known) (moment_at known moment) conn act
 
 -- the message that is sent
 abbrev pub post_at : Known → ℕ → ℕ → Act → Option Post
 post_at known moment conn act =
     if is_only_subscribed act (connection_of known conn) then None
-    else post_by (state_of known) (later (state_of known).moment moment) act
+    else post_by (state_of known) (moment_at known moment) act
 
 -- the server afterwards
 abbrev pub known_at : Known → ℕ → ℕ → ℕ → Act → Known
@@ -162,7 +168,8 @@ takes_some most connection = nat_le 1 most && nat_le 1 (length connection.outbox
 -- the fault of a drain: a full history, where it would take something, comes before a dropped connection
 abbrev pub drain_fault : Known → ℕ → ℕ → Option StepFault
 drain_fault known conn most =
-    if takes_some most (connection_of known conn) && is_refused known.entries (acts.Drain most) then Some faults.HistoryFull
+    if takes_some most (connection_of known conn) && is_refused known.entries (acts.Drain most)
+    then Some faults.HistoryFull
     else if (connection_of known conn).dropped then Some faults.Dropped
     else None
 

@@ -10,8 +10,8 @@ use Rattle.lr_pubsub.specs.Listed.{Listed, board_of}
 use Rattle.lr_server.specs.declared.answered.Answered.{Answered}
 use Rattle.lr_server.specs.Server.{Known, state_of, answer_of, post_by, reached_of, dropped_of}
 
--- The history is legal; the keys stand for the objects that it leaves, the board and the moment are those that it leaves.
--- Each open connection can be closed: there is room for the entry of its close.
+-- The history is legal; the keys stand for the objects that it leaves, and the board and the moment are those that it
+-- leaves. Each open connection can be closed: there is room for the entry of its close.
 pub record IsServing (known : Known) (moment : ℕ) (keys : Keys) (board : Listed) (spare : ℕ) : Type 0 where
   pub first : known.last < connection_limit
   pub legal : IsLegal (started known.last) known.entries
@@ -28,12 +28,15 @@ pub record IsHeld (keys : Keys) (board : Listed) (state : State) : Type 0 where
   pub stands : StandsFor keys state.objects
   pub listed : board_of board ≡ state.board
 
--- An act was done at a moment: it was answered as it should be in a state, and the keys and the board are those after it.
-pub record IsDone (state : State) (moment conn : ℕ) (act : Act) (answered : Answered) (keys : Keys) (board : Listed) : Type 0 where
+-- An act was done at a moment: it was answered as it should be in a state, and the keys and the board are those
+-- after it.
+pub record IsDone (state : State) (moment conn : ℕ) (act : Act) (answered : Answered)
+    (keys : Keys) (board : Listed) : Type 0 where
   pub answer : answered.answer ≡ answer_of state moment conn act
   pub post : answered.post ≡ post_by state moment act
   pub reached : answered.reached ≡ reached_of (post_by state moment act) state.board
   pub dropping : answered.dropped ≡ dropped_of (post_by state moment act) state.board
   pub stands : StandsFor keys (objects_by state moment act)
   pub in_time : keys.moment ≤ moment
-  pub listed : (caller : ℕ) → board_of board ≡ board_by state (record { moment = moment; caller = caller; conn = conn; act = act }) act
+  pub listed : (caller : ℕ)
+      → board_of board ≡ board_by state (record { moment = moment; caller = caller; conn = conn; act = act }) act

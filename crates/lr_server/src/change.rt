@@ -50,7 +50,8 @@ pub(crate) fn change(
     requires held { (objects : Objects) × StandsFor keys.old objects }
     requires early { moment ≤ last_moment }
     requires in_time { keys.old.moment ≤ moment }
-    ensures done { IfOk result (λ a. (state : State) → IsHeld keys.old board.old state → IsDone state moment conn act.now a keys.new board.new) }
+    ensures done { IfOk result (λ a. (state : State) → IsHeld keys.old board.old state
+        → IsDone state moment conn act.now a keys.new board.new) }
     ensures keys { OnErr result (keys.new ≡ keys.old) }
     ensures board { OnErr result (board.new.connections ≡ board.old.connections) }
 {
@@ -79,7 +80,8 @@ fn call(
     requires held { (objects : Objects) × StandsFor keys.old objects }
     requires early { moment ≤ last_moment }
     requires in_time { keys.old.moment ≤ moment }
-    ensures done { IfOk result (λ a. (state : State) (conn : ℕ) → IsHeld keys.old board.old state → IsDone state moment conn (acts.Call op.now) a keys.new board.new) }
+    ensures done { IfOk result (λ a. (state : State) (conn : ℕ) → IsHeld keys.old board.old state
+        → IsDone state moment conn (acts.Call op.now) a keys.new board.new) }
     ensures keys { OnErr result (keys.new ≡ keys.old) }
     ensures board { OnErr result (board.new.connections ≡ board.old.connections) }
 {
@@ -94,7 +96,8 @@ fn call(
 // Subscribes an open connection to a channel.
 fn subscribe(board: &mut Board, conn: u32, channel: &Channel) -> Result<u32, AllocError>
     requires { IsTrue (is_open (board_of board.old conn)) }
-    ensures ok { OnOk result (board_of board.new ≡ with_connection (board_of board.old) conn (subscribed channel.now (board_of board.old conn))) }
+    ensures ok { OnOk result (board_of board.new
+        ≡ with_connection (board_of board.old) conn (subscribed channel.now (board_of board.old conn))) }
     ensures count { IfOk result (λ n. n ≡ length (with_channel channel.now (board_of board.old conn))) }
     ensures err { OnErr result (board.new.connections ≡ board.old.connections) }
 {
@@ -107,7 +110,8 @@ fn subscribe(board: &mut Board, conn: u32, channel: &Channel) -> Result<u32, All
 // Takes a channel from an open connection.
 fn unsubscribe(board: &mut Board, conn: u32, channel: &Channel) -> Result<u32, AllocError>
     requires { IsTrue (is_open (board_of board.old conn)) }
-    ensures ok { OnOk result (board_of board.new ≡ with_connection (board_of board.old) conn (unsubscribed channel.now (board_of board.old conn))) }
+    ensures ok { OnOk result (board_of board.new
+        ≡ with_connection (board_of board.old) conn (unsubscribed channel.now (board_of board.old conn))) }
     ensures count { IfOk result (λ n. n ≡ length (without_channel channel.now (board_of board.old conn))) }
     ensures err { OnErr result (board.new.connections ≡ board.old.connections) }
 {

@@ -1,5 +1,5 @@
-//! One state of the server: keys, connections with their channels and outboxes, and the stored history. Each request is
-//! one step, which makes at most one entry of the history.
+//! One state of the server: keys, connections with their channels and outboxes, and the stored history. Each
+//! request is one step, which makes at most one entry of the history.
 #![tactic(auto)]
 
 mod answered;

@@ -6,7 +6,7 @@ ghost use Rattle.lr_model.specs.History.{started, next_number, CanDrain, IsAllow
 ghost use Rattle.lr_history.specs.Limit.{is_refused, most_entries};
 ghost use Rattle.lr_model.specs.Moment.{last_moment, later};
 ghost use Rattle.lr_pubsub.specs.Listed.{is_in_flight};
-ghost use Rattle.lr_server.specs.Server.{state_of, connection_of, known_after, known_at, drained_at, act_of, answer_of, post_by, answer_at, post_at, reached_of, dropped_of, fault_of, drain_fault, is_asked, is_only_subscribed, is_stopped, takes_some};
+ghost use Rattle.lr_server.specs.Server.{state_of, connection_of, moment_at, known_after, known_at, drained_at, act_of, answer_of, post_by, answer_at, post_at, reached_of, dropped_of, fault_of, drain_fault, is_asked, is_only_subscribed, is_stopped, takes_some};
 
 use crate::answered::{Answer, Answered};
 use crate::change::{act_of, change};
@@ -42,7 +42,8 @@ impl Model for ServerState {
 
     ghost view = { λ s. record { last = s.last; entries = s.history.entries } };
 
-    ghost invariant = { λ s. IsServing (record { last = s.last; entries = s.history.entries }) s.moment s.keys s.board s.history.spare };
+    ghost invariant = { λ s. IsServing (record { last = s.last; entries = s.history.entries })
+        s.moment s.keys s.board s.history.spare };
 }
 
 impl ServerState {
@@ -63,12 +64,13 @@ impl ServerState {
         })
     }
 
-    /// Opens a connection for a caller, and gives its number: the least that is free. `TooManyConnections` comes exactly
-    /// where 256 are open, and `HistoryFull` exactly where fewer are and the history takes only closes. An error changes
-    /// nothing.
+    /// Opens a connection for a caller, and gives its number: the least that is free. `TooManyConnections` comes
+    /// exactly where 256 are open, and `HistoryFull` exactly where fewer are and the history takes only closes. An
+    /// error changes nothing.
     pub fn open(&mut self, moment: u64, caller: u64) -> Result<u32, StepFault>
         ensures number { IfOk result (λ conn. conn ≡ next_number (state_of self.old).board) }
-        ensures entry { OnOk result (self.new ≡ known_after self.old moment caller (next_number (state_of self.old).board) acts.Open) }
+        ensures entry { OnOk result (self.new
+            ≡ known_after self.old moment caller (next_number (state_of self.old).board) acts.Open) }
         ensures too_many { (result ≡ Err StepFault.TooManyConnections) ↔ (free_numbers (state_of self.old).board ≡ []) }
         ensures full { (result ≡ Err StepFault.HistoryFull)
             ↔ (free_numbers (state_of self.old).board ≢ []) × IsTrue (is_refused self.old.entries acts.Open) }
@@ -98,11 +100,13 @@ impl ServerState {
         Ok(conn)
     }
 
-    /// Does what a request of an open connection asks, for a caller. It is a call, or one channel is subscribed to or left.
+    /// Does what a request of an open connection asks, for a caller. It is a call, or one channel is subscribed to
+    /// or left.
     ///
-    /// `OnlySubscribed` is answered exactly where a connection that has a channel calls; it makes no entry. Of the faults,
-    /// `HistoryFull` comes exactly where an entry would be made and the history takes only closes; else `Dropped` exactly
-    /// where the connection was dropped, or should send an acknowledgement and its outbox is full. An error changes nothing.
+    /// `OnlySubscribed` is answered exactly where a connection that has a channel calls; it makes no entry. Of the
+    /// faults, `HistoryFull` comes exactly where an entry would be made and the history takes only closes; else
+    /// `Dropped` exactly where the connection was dropped, or should send an acknowledgement and its outbox is
+    /// full. An error changes nothing.
     pub fn step(
         &mut self,
         moment: u64,
@@ -112,13 +116,16 @@ impl ServerState {
     ) -> Result<Answered, StepFault>
         requires open { IsTrue (is_open (connection_of self.old conn)) }
         requires request { IsSome (act_of request.now) }
-        ensures answer { (act : Act) → act_of request.now ≡ Some act → IfOk result (λ a. a.answer ≡ answer_at self.old moment conn act) }
-        ensures post { (act : Act) → act_of request.now ≡ Some act → IfOk result (λ a. a.post ≡ post_at self.old moment conn act) }
+        ensures answer { (act : Act) → act_of request.now ≡ Some act
+            → IfOk result (λ a. a.answer ≡ answer_at self.old moment conn act) }
+        ensures post { (act : Act) → act_of request.now ≡ Some act
+            → IfOk result (λ a. a.post ≡ post_at self.old moment conn act) }
         ensures reached { (act : Act) → act_of request.now ≡ Some act
             → IfOk result (λ a. a.reached ≡ reached_of (post_at self.old moment conn act) (state_of self.old).board) }
         ensures dropping { (act : Act) → act_of request.now ≡ Some act
             → IfOk result (λ a. a.dropped ≡ dropped_of (post_at self.old moment conn act) (state_of self.old).board) }
-        ensures entry { (act : Act) → act_of request.now ≡ Some act → OnOk result (self.new ≡ known_at self.old moment caller conn act) }
+        ensures entry { (act : Act) → act_of request.now ≡ Some act
+            → OnOk result (self.new ≡ known_at self.old moment caller conn act) }
 
         // Each fault but want of memory has its cause.
         ensures full { (act : Act) → act_of request.now ≡ Some act
@@ -126,17 +133,18 @@ impl ServerState {
         ensures dropped { (act : Act) → act_of request.now ≡ Some act
             → (result ≡ Err StepFault.Dropped) ↔ (fault_of self.old conn act ≡ Some StepFault.Dropped) }
         ensures not_too_many { result ≢ Err StepFault.TooManyConnections }
-        ensures subscriber { (act : Act) → act_of request.now ≡ Some act → IsTrue (is_only_subscribed act (connection_of self.old conn)) → IsOk result }
+        ensures subscriber { (act : Act) → act_of request.now ≡ Some act
+            → IsTrue (is_only_subscribed act (connection_of self.old conn)) → IsOk result }
         ensures err { OnErr result (self.new ≡ self.old) }
     {
         self.act(moment, caller, conn, act_of(request))
     }
 
-    /// Takes the first items of the outbox of an open connection, at most so many, for a caller. A drain that takes nothing
-    /// makes no entry, and takes no memory.
+    /// Takes the first items of the outbox of an open connection, at most so many, for a caller. A drain that takes
+    /// nothing makes no entry, and takes no memory.
     ///
-    /// `HistoryFull` comes exactly where it would take something and the history takes only closes; else `Dropped` exactly
-    /// where the connection was dropped. An error changes nothing.
+    /// `HistoryFull` comes exactly where it would take something and the history takes only closes; else `Dropped`
+    /// exactly where the connection was dropped. An error changes nothing.
     pub fn drain(
         &mut self,
         moment: u64,
@@ -147,10 +155,12 @@ impl ServerState {
         requires { IsTrue (is_open (connection_of self.old conn)) }
         ensures items { IfOk result (λ items. items ≡ take most (connection_of self.old conn).outbox) }
         ensures entry { OnOk result (self.new ≡ drained_at self.old moment caller conn most) }
-        ensures full { (result ≡ Err StepFault.HistoryFull) ↔ (drain_fault self.old conn most ≡ Some StepFault.HistoryFull) }
+        ensures full { (result ≡ Err StepFault.HistoryFull)
+            ↔ (drain_fault self.old conn most ≡ Some StepFault.HistoryFull) }
         ensures dropped { (result ≡ Err StepFault.Dropped) ↔ (drain_fault self.old conn most ≡ Some StepFault.Dropped) }
         ensures not_too_many { result ≢ Err StepFault.TooManyConnections }
-        ensures idle { (connection_of self.old conn).dropped ≡ false → takes_some most (connection_of self.old conn) ≡ false → IsOk result }
+        ensures idle { (connection_of self.old conn).dropped ≡ false
+            → takes_some most (connection_of self.old conn) ≡ false → IsOk result }
         ensures err { OnErr result (self.new ≡ self.old) }
     {
         if let Some(fault) = self.drain_fault(conn, most) {
@@ -280,10 +290,13 @@ impl ServerState {
         requires asked { IsTrue (is_asked act) }
         ensures answer { IfOk result (λ a. a.answer ≡ answer_at self.old moment conn act) }
         ensures post { IfOk result (λ a. a.post ≡ post_at self.old moment conn act) }
-        ensures reached { IfOk result (λ a. a.reached ≡ reached_of (post_at self.old moment conn act) (state_of self.old).board) }
-        ensures dropping { IfOk result (λ a. a.dropped ≡ dropped_of (post_at self.old moment conn act) (state_of self.old).board) }
+        ensures reached { IfOk result (λ a. a.reached
+            ≡ reached_of (post_at self.old moment conn act) (state_of self.old).board) }
+        ensures dropping { IfOk result (λ a. a.dropped
+            ≡ dropped_of (post_at self.old moment conn act) (state_of self.old).board) }
         ensures entry { OnOk result (self.new ≡ known_at self.old moment caller conn act) }
-        ensures full { (result ≡ Err StepFault.HistoryFull) ↔ (fault_of self.old conn act ≡ Some StepFault.HistoryFull) }
+        ensures full { (result ≡ Err StepFault.HistoryFull)
+            ↔ (fault_of self.old conn act ≡ Some StepFault.HistoryFull) }
         ensures dropped { (result ≡ Err StepFault.Dropped) ↔ (fault_of self.old conn act ≡ Some StepFault.Dropped) }
         ensures not_too_many { result ≢ Err StepFault.TooManyConnections }
         ensures subscriber { IsTrue (is_only_subscribed act (connection_of self.old conn)) → IsOk result }
@@ -315,10 +328,14 @@ impl ServerState {
         requires asked { IsTrue (is_asked act) }
         requires allowed { IsAllowed (state_of self.old) conn act }
         requires room { is_refused self.old.entries act ≡ false }
-        ensures answer { IfOk result (λ a. a.answer ≡ answer_of (state_of self.old) (later (state_of self.old).moment moment) conn act) }
-        ensures post { IfOk result (λ a. a.post ≡ post_by (state_of self.old) (later (state_of self.old).moment moment) act) }
-        ensures reached { IfOk result (λ a. a.reached ≡ reached_of (post_by (state_of self.old) (later (state_of self.old).moment moment) act) (state_of self.old).board) }
-        ensures dropping { IfOk result (λ a. a.dropped ≡ dropped_of (post_by (state_of self.old) (later (state_of self.old).moment moment) act) (state_of self.old).board) }
+        ensures answer { IfOk result (λ a. a.answer
+            ≡ answer_of (state_of self.old) (moment_at self.old moment) conn act) }
+        ensures post { IfOk result (λ a. a.post
+            ≡ post_by (state_of self.old) (moment_at self.old moment) act) }
+        ensures reached { IfOk result (λ a. a.reached
+            ≡ reached_of (post_by (state_of self.old) (moment_at self.old moment) act) (state_of self.old).board) }
+        ensures dropping { IfOk result (λ a. a.dropped
+            ≡ dropped_of (post_by (state_of self.old) (moment_at self.old moment) act) (state_of self.old).board) }
         ensures entry { OnOk result (self.new ≡ known_after self.old moment caller conn act) }
         ensures err { OnErr result (self.new ≡ self.old) }
     {

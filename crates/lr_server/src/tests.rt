@@ -9,7 +9,8 @@ use std::test::Fail;
 // Thread 1 of the client whose number is 1.
 const OWNER: &[u8] = b"00000000-0000-0000-0000-000000000001:1";
 
-// What an open connection is answered, and how many connections the message of its call reached: `None` where it isn't open.
+// What an open connection is answered, and how many connections the message of its call reached: `None` where it
+// isn't open.
 fn ask(
     server: &mut ServerState,
     conn: u32,

@@ -31,14 +31,18 @@ pub fn play_top<S: Source, K: Sink>(
     ensures untouched { result ≡ Status.Usage → (source.new ≡ source.old) × (sink.new ≡ sink.old) }
 
     // What is known at each end.
-    ensures done { result ≡ Status.Done → WhereTold (S.left source.old) (S.left source.new) (K.held sink.old) (K.held sink.new) RanThrough }
+    ensures done { result ≡ Status.Done
+        → WhereTold (S.left source.old) (S.left source.new) (K.held sink.old) (K.held sink.new) RanThrough }
     ensures bad_line { (number : ℕ) → result ≡ Status.BadLine number
         → WhereTold (S.left source.old) (S.left source.new) (K.held sink.old) (K.held sink.new) (λ all rest before held. StoppedAt number kinds.Bad all before held) }
     ensures too_many { (number : ℕ) → result ≡ Status.TooMany number
         → WhereTold (S.left source.old) (S.left source.new) (K.held sink.old) (K.held sink.new) (λ all rest before held. StoppedAt number kinds.TooMany all before held) }
-    ensures read_fault { result ≡ Status.ReadFault → WhereTold (S.left source.old) (S.left source.new) (K.held sink.old) (K.held sink.new) BrokeOff }
-    ensures write_fault { result ≡ Status.WriteFault → WhereTold (S.left source.old) (S.left source.new) (K.held sink.old) (K.held sink.new) WrittenInPart }
-    ensures no_memory { result ≡ Status.NoMemory → WhereTold (S.left source.old) (S.left source.new) (K.held sink.old) (K.held sink.new) WrittenInPart }
+    ensures read_fault { result ≡ Status.ReadFault
+        → WhereTold (S.left source.old) (S.left source.new) (K.held sink.old) (K.held sink.new) BrokeOff }
+    ensures write_fault { result ≡ Status.WriteFault
+        → WhereTold (S.left source.old) (S.left source.new) (K.held sink.old) (K.held sink.new) WrittenInPart }
+    ensures no_memory { result ≡ Status.NoMemory
+        → WhereTold (S.left source.old) (S.left source.new) (K.held sink.old) (K.held sink.new) WrittenInPart }
     ensures no_other { IsEndOfPlay result }
 
     // Faults have their causes.
@@ -46,7 +50,8 @@ pub fn play_top<S: Source, K: Sink>(
     ensures write_cause { result ≡ Status.WriteFault → Rose (K.faults sink.old) (K.faults sink.new) }
 
     // A schedule whose lines are all events runs through, unless a count of faults rises or memory runs out.
-    ensures complete { (all before : List ℕ) → IsPlay words.now → S.left source.old ≡ Some all → K.held sink.old ≡ Some before → AreEvents 1 (lines_of all)
+    ensures complete { (all before : List ℕ) → IsPlay words.now → S.left source.old ≡ Some all
+        → K.held sink.old ≡ Some before → AreEvents 1 (lines_of all)
         → (Rose (S.faults source.old) (S.faults source.new) → ⊥) → (Rose (K.faults sink.old) (K.faults sink.new) → ⊥)
         → (result ≡ Status.Done) ⊎ (result ≡ Status.NoMemory) }
 

@@ -52,7 +52,8 @@ impl World {
         // The history stays legal, and no two owners hold one lock at once.
         ensures sound { IsSound (world_of self.new) }
         // It has what the event made the server do, for whom, and nothing else.
-        ensures once { OnOk result (signed self.new.entries ≡ signed self.old.entries ++ acts_of (world_of self.old) event.now) }
+        ensures once { OnOk result (signed self.new.entries
+            ≡ signed self.old.entries ++ acts_of (world_of self.old) event.now) }
         // Each event makes one entry at most, so that no event finds a full history.
         ensures few { length self.new.entries ≤ self.new.applied + 128 }
     {

@@ -3,6 +3,7 @@ ghost use Rattle.lr_model.specs.History.{after, MayFollow};
 ghost use Rattle.lr_model.specs.Moment.{last_moment};
 ghost use Rattle.lr_model.specs.World.{first_state, call_entry, replied_at};
 ghost use Rattle.lr_objects.specs.declared.reply.Reply.{Reply};
+ghost use Rattle.lr_server.specs.Server.{with_entry};
 ghost use Rattle.lr_server.specs.declared.answered.Answer.TheVariants as answers;
 ghost use Rattle.lr_world.specs.Shown.{shown_of};
 
@@ -79,7 +80,8 @@ fn call(
     requires room { length state.old.entries < 2000000 }
     requires time { moment ≤ last_moment }
     ensures replied { IfOk result (λ r. r ≡ replied_at (after first_state state.old.entries) moment op.now) }
-    ensures entry { OnOk result (state.new ≡ record { last = state.old.last; entries = state.old.entries ++ call_entry moment caller conn op.now ∷ [] }) }
+    ensures entry { OnOk result (state.new
+        ≡ with_entry state.old (call_entry moment caller conn op.now)) }
     ensures err { OnErr result (state.new ≡ state.old) }
 {
     match state.step(moment, caller, conn, &Request::Call(*op)) {
