@@ -1,28 +1,30 @@
-ghost use Rattle.std.specs.Prelude.{IsSome};
+ghost use Rattle.std.specs.Prelude.{IsSome, IfOk};
 ghost use Rattle.lr_server.specs.Server.{act_of};
 
 use crate::{Answer, Channels, Request, ServerState, StepFault};
 use lr_names::{Channel, Kind, Name, Owner, Push, Wakes};
 use lr_objects::{Op, Reply};
+use std::alloc::{AllocError, Global};
 use std::test::Fail;
 
 // Thread 1 of the client whose number is 1.
 const OWNER: &[u8] = b"00000000-0000-0000-0000-000000000001:1";
 
-// What an open connection is answered, and how many connections the message of its call reached: `None` where it
-// isn't open.
-fn ask(
+// Whether an open connection is answered so, and the message of its call reaches so many.
+fn answers(
     server: &mut ServerState,
     conn: u32,
     request: &Request,
-) -> Result<Option<(Answer, u32)>, StepFault>
+    answer: Answer,
+    reached: u32,
+) -> Result<bool, StepFault>
     requires { IsSome (act_of request.now) }
 {
     if server.opener(conn).is_none() {
-        return Ok(None);
+        return Ok(false);
     }
     match server.step(0, 0, conn, request) {
-        Ok(answered) => Ok(Some((answered.answer, answered.reached))),
+        Ok(answered) => Ok(answered.reached == reached && answered.answer == answer),
         Err(fault) => Err(fault),
     }
 }
@@ -38,47 +40,84 @@ fn takes(server: &mut ServerState, conn: u32, wanted: &[Push]) -> Result<bool, S
     }
 }
 
-#[test]
-fn a_subscriber_is_told(rt: HostRuntime) -> Result<(), Fail> {
-    let name = Name::parse(b"a")?;
-    let owner = Owner::parse(OWNER)?;
-    let channel = Channel::of(Kind::Mutex, &name);
-    let mut channels = Channels::new(rt.alloc());
+// A request to subscribe to a channel.
+fn subscribing(alloc: Global, channel: Channel) -> Result<Request, AllocError>
+    ensures { IfOk result (λ request. IsSome (act_of request)) }
+{
+    let mut channels = Channels::new(alloc);
     channels.push(channel)?;
-    let first = Op::LockTry {
+    Ok(Request::Subscribe(channels))
+}
+
+// Whether a lock is granted and freed on connection 0, and refused to the subscriber on connection 1.
+fn calls_are_answered(
+    server: &mut ServerState,
+    name: Name,
+    owner: Owner,
+) -> Result<bool, StepFault> {
+    let take = Request::Call(Op::LockTry {
         name,
         owner,
         lease: 30_000,
-    };
-    let last = Op::LockUnlock {
+    });
+    let free = Request::Call(Op::LockUnlock {
         name,
         owner,
         rest: 30_000,
-    };
-    let mut server = ServerState::new(rt.alloc(), 1)?;
-    let subscribing = Request::Subscribe(channels);
-    assert!(rt; ask(&mut server, 1, &subscribing)? == Some((Answer::Queued(1), 0)));
-    for (conn, op, answer, reached) in [
-        (0, first, Answer::Reply(Reply::Granted), 0),
-        (0, last, Answer::Reply(Reply::Freed), 1),
-        (1, first, Answer::OnlySubscribed, 0),
-    ] {
-        let call = Request::Call(op);
-        assert!(rt; ask(&mut server, conn, &call)? == Some((answer, reached)));
-    }
+    });
+    let granted = answers(server, 0, &take, Answer::Reply(Reply::Granted), 0)?;
+    let freed = answers(server, 0, &free, Answer::Reply(Reply::Freed), 1)?;
+    let refused = answers(server, 1, &take, Answer::OnlySubscribed, 0)?;
+    Ok(freed && granted && refused)
+}
+
+// Whether the subscriber is handed its acknowledgement and one message, once.
+fn messages_are_handed_out(server: &mut ServerState, channel: Channel) -> Result<bool, StepFault> {
     let told = [
         Push::Subscribed(channel, 1),
         Push::Message(channel, Wakes::One),
     ];
-    assert!(rt; takes(&mut server, 1, &told)?);
-    assert!(rt; takes(&mut server, 1, &[])?);
-    assert_eq!(rt; server.history().len(), 4);
-    assert!(rt; server.open(0, 0)? == 2);
+    let first = takes(server, 1, &told)?;
+    let second = takes(server, 1, &[])?;
+    Ok(second && first)
+}
+
+// Whether the history has four entries, and the next connection is number 2.
+fn goes_on(server: &mut ServerState) -> Result<bool, StepFault> {
+    let entries = server.history().len();
+    let number = server.open(0, 0)?;
+    Ok(entries == 4 && number == 2)
+}
+
+// Whether all of this is so, one after the other.
+fn all_is_answered(
+    server: &mut ServerState,
+    request: &Request,
+    channel: Channel,
+    owner: Owner,
+) -> Result<bool, StepFault>
+    requires { IsSome (act_of request.now) }
+{
+    let subscribed = answers(server, 1, request, Answer::Queued(1), 0)?;
+    let called = calls_are_answered(server, *channel.name(), owner)?;
+    let told = messages_are_handed_out(server, channel)?;
+    let goes_on = goes_on(server)?;
+    Ok(subscribed && called && told && goes_on)
+}
+
+#[test]
+fn a_subscriber_is_told(rt: HostRuntime) -> Result<(), Fail> {
+    let owner = Owner::parse(OWNER)?;
+    let channel = Channel::of(Kind::Mutex, &Name::parse(b"a")?);
+    let request = subscribing(rt.alloc(), channel)?;
+    let mut server = ServerState::new(rt.alloc(), 1)?;
+    let answered = all_is_answered(&mut server, &request, channel, owner)?;
+    assert!(rt; answered);
     Ok(())
 }
 
 #[test]
-fn the_last_number(rt: HostRuntime) -> Result<(), Fail> {
+fn the_last_number_is_given_once(rt: HostRuntime) -> Result<(), Fail> {
     let mut server = ServerState::new(rt.alloc(), 255)?;
     assert!(rt; server.open(0, 0) == Err(StepFault::TooManyConnections));
     Ok(())
