@@ -15,6 +15,11 @@ pub enum HistoryFault {
 }
 
 impl fmt::Display for HistoryFault {
+    ghost use Rattle.std.specs.Prelude.{Some};
+    ghost use Rattle.lr_history.specs.Fault.{fault_text};
+
+    ghost output = { λ fault. Some (fault_text fault) };
+
     fn fmt<W: fmt::Write>(&self, f: &mut fmt::Formatter<W>) -> fmt::Result {
         f.write_str(match self {
             HistoryFault::HistoryFull => "the history is full",

@@ -2,3 +2,4 @@ pub mod FieldMap
 pub mod KeySpace
 pub mod Kept
 pub mod Table
+pub mod Fault

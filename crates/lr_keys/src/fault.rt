@@ -19,6 +19,11 @@ pub enum KeyFault {
 }
 
 impl fmt::Display for KeyFault {
+    ghost use Rattle.std.specs.Prelude.{Some};
+    ghost use Rattle.lr_keys.specs.Fault.{fault_text};
+
+    ghost output = { λ fault. Some (fault_text fault) };
+
     fn fmt<W: fmt::Write>(&self, f: &mut fmt::Formatter<W>) -> fmt::Result {
         f.write_str(match self {
             KeyFault::WrongKind => "the key holds a value of another kind",

@@ -168,7 +168,8 @@ impl KeySpace {
         requires some { 1 ≤ millis }
         requires few { millis ≤ MAX_LEASE }
         ensures found { result ≡ is_some (entry_at self.old key.now) }
-        ensures expires { entry_at self.new ≡ put key.now (entry_with_expiry (self.old.moment + millis) (entry_at self.old key.now)) (entry_at self.old) }
+        ensures expires { entry_at self.new
+            ≡ put key.now (entry_with_expiry (self.old.moment + millis) (entry_at self.old key.now)) (entry_at self.old) }
         ensures moment { self.new.moment ≡ self.old.moment }
         ensures prepared { plan_at self.new ≡ plan_at self.old }
         ensures absent { result ≡ false → self.new ≡ self.old }
@@ -195,10 +196,13 @@ impl KeySpace {
         by: i64,
     ) -> Result<i64, KeyFault>
         ensures answer { Answers (λ n. n) result (raised_in field.now by (hash_at (entry_at self.old key.now))) }
-        ensures there { IsTrue (is_there (field_at field.now (entry_at self.old key.now))) → result ≢ Err KeyFault.NoMemory }
+        ensures there { IsTrue (is_there (field_at field.now (entry_at self.old key.now)))
+            → result ≢ Err KeyFault.NoMemory }
         ensures prepared { IsPrepared self.old key.now ValueKind.Hash field.now → result ≢ Err KeyFault.NoMemory }
-        ensures written { IfOk result (λ n. entry_at self.new ≡ put key.now (Some (entry_with_field field.now n (entry_at self.old key.now))) (entry_at self.old)) }
-        ensures plans { OnOk result (plan_at self.new ≡ plans_after (is_there (field_at field.now (entry_at self.old key.now))) key.now ValueKind.Hash field.now (plan_at self.old)) }
+        ensures written { IfOk result (λ n. entry_at self.new
+            ≡ put key.now (Some (entry_with_field field.now n (entry_at self.old key.now))) (entry_at self.old)) }
+        ensures plans { OnOk result (plan_at self.new
+            ≡ plans_after (is_there (field_at field.now (entry_at self.old key.now))) key.now ValueKind.Hash field.now (plan_at self.old)) }
         ensures moment { self.new.moment ≡ self.old.moment }
         ensures refused { OnErr result (self.new ≡ self.old) }
     {
@@ -222,8 +226,10 @@ impl KeySpace {
         ensures answer { Answers (λ n. n) result (raised_counter by (counter_at (entry_at self.old key.now))) }
         ensures there { IsTrue (is_there (counter_at (entry_at self.old key.now))) → result ≢ Err KeyFault.NoMemory }
         ensures prepared { IsPrepared self.old key.now ValueKind.Counter [] → result ≢ Err KeyFault.NoMemory }
-        ensures written { IfOk result (λ n. entry_at self.new ≡ put key.now (Some (entry_with_number n (entry_at self.old key.now))) (entry_at self.old)) }
-        ensures plans { OnOk result (plan_at self.new ≡ plans_after (is_there (counter_at (entry_at self.old key.now))) key.now ValueKind.Counter [] (plan_at self.old)) }
+        ensures written { IfOk result (λ n. entry_at self.new
+            ≡ put key.now (Some (entry_with_number n (entry_at self.old key.now))) (entry_at self.old)) }
+        ensures plans { OnOk result (plan_at self.new
+            ≡ plans_after (is_there (counter_at (entry_at self.old key.now))) key.now ValueKind.Counter [] (plan_at self.old)) }
         ensures moment { self.new.moment ≡ self.old.moment }
         ensures refused { OnErr result (self.new ≡ self.old) }
     {
@@ -243,7 +249,8 @@ impl KeySpace {
     /// Removes a field of the hash, and says whether it was there. A hash that becomes empty is removed.
     pub fn hdel(&mut self, key: &Brief, field: &Brief) -> Result<bool, KeyFault>
         ensures answer { result ≡ found_in (field_at field.now (entry_at self.old key.now)) }
-        ensures removed { result ≡ Ok true → entry_at self.new ≡ put key.now (entry_without_field field.now (entry_at self.old key.now)) (entry_at self.old) }
+        ensures removed { result ≡ Ok true → entry_at self.new
+            ≡ put key.now (entry_without_field field.now (entry_at self.old key.now)) (entry_at self.old) }
         ensures moment { self.new.moment ≡ self.old.moment }
         ensures prepared { plan_at self.new ≡ plan_at self.old }
         ensures absent { result ≢ Ok true → self.new ≡ self.old }
@@ -267,7 +274,8 @@ impl KeySpace {
         kind: ValueKind,
         member: &Brief,
     ) -> Result<(), AllocError>
-        ensures prepared { OnOk result (plan_at self.new ≡ put key.now (Some (record { kind = kind; member = member.now })) (plan_at self.old)) }
+        ensures prepared { OnOk result (plan_at self.new
+            ≡ put key.now (Some (record { kind = kind; member = member.now })) (plan_at self.old)) }
         ensures entries { entry_at self.new ≡ entry_at self.old }
         ensures moment { self.new.moment ≡ self.old.moment }
         ensures err { OnErr result (self.new ≡ self.old) }
@@ -290,7 +298,8 @@ impl KeySpace {
 
     // How many fields the hash has.
     fn fields(&self, key: &Brief) -> usize
-        ensures { (pairs : List (List ℕ × ℤ)) → hash_at (entry_at self.now key.now) ≡ Ok pairs → result ≡ length pairs }
+        ensures { (pairs : List (List ℕ × ℤ)) → hash_at (entry_at self.now key.now) ≡ Ok pairs
+            → result ≡ length pairs }
     {
         match self.slot(key) {
             Some(slot) => slot.value.fields(),
@@ -306,10 +315,13 @@ impl KeySpace {
         field: &Brief,
         number: i64,
     ) -> Result<(), AllocError>
-        requires { (pairs : List (List ℕ × ℤ)) → hash_at (entry_at self.old key.now) ≡ Ok pairs → length pairs < MAX_MEMBERS }
-        ensures entry { OnOk result (entry_at self.new ≡ put key.now (Some (entry_with_field field.now number (entry_at self.old key.now))) (entry_at self.old)) }
+        requires { (pairs : List (List ℕ × ℤ)) → hash_at (entry_at self.old key.now) ≡ Ok pairs
+            → length pairs < MAX_MEMBERS }
+        ensures entry { OnOk result (entry_at self.new
+            ≡ put key.now (Some (entry_with_field field.now number (entry_at self.old key.now))) (entry_at self.old)) }
         ensures moment { self.new.moment ≡ self.old.moment }
-        ensures prepared { OnOk result (plan_at self.new ≡ plans_after false key.now ValueKind.Hash field.now (plan_at self.old)) }
+        ensures prepared { OnOk result (plan_at self.new
+            ≡ plans_after false key.now ValueKind.Hash field.now (plan_at self.old)) }
         ensures succeeds { IsTrue (is_plan_for ValueKind.Hash field.now (plan_at self.old key.now)) → IsOk result }
         ensures err { OnErr result (self.new ≡ self.old) }
     {
@@ -337,7 +349,8 @@ impl KeySpace {
     // Writes a field that is there.
     fn write_field(&mut self, key: &Brief, field: &Brief, number: i64)
         requires { IsTrue (is_there (field_at field.now (entry_at self.old key.now))) }
-        ensures entry { entry_at self.new ≡ put key.now (Some (entry_with_field field.now number (entry_at self.old key.now))) (entry_at self.old) }
+        ensures entry { entry_at self.new
+            ≡ put key.now (Some (entry_with_field field.now number (entry_at self.old key.now))) (entry_at self.old) }
         ensures moment { self.new.moment ≡ self.old.moment }
         ensures prepared { plan_at self.new ≡ plan_at self.old }
     {
@@ -354,11 +367,14 @@ impl KeySpace {
         prepared: bool,
     ) -> Result<(), AllocError>
         requires there { IsSome (entry_at self.old key.now) }
-        requires few { (pairs : List (List ℕ × ℤ)) → hash_at (entry_at self.old key.now) ≡ Ok pairs → length pairs < MAX_MEMBERS }
+        requires few { (pairs : List (List ℕ × ℤ)) → hash_at (entry_at self.old key.now) ≡ Ok pairs
+            → length pairs < MAX_MEMBERS }
         requires prepared { prepared ≡ is_plan_for ValueKind.Hash field.now (plan_at self.old key.now) }
-        ensures entry { OnOk result (entry_at self.new ≡ put key.now (Some (entry_with_field field.now number (entry_at self.old key.now))) (entry_at self.old)) }
+        ensures entry { OnOk result (entry_at self.new
+            ≡ put key.now (Some (entry_with_field field.now number (entry_at self.old key.now))) (entry_at self.old)) }
         ensures moment { self.new.moment ≡ self.old.moment }
-        ensures prepared { OnOk result (plan_at self.new ≡ plans_after false key.now ValueKind.Hash field.now (plan_at self.old)) }
+        ensures prepared { OnOk result (plan_at self.new
+            ≡ plans_after false key.now ValueKind.Hash field.now (plan_at self.old)) }
         ensures succeeds { IsTrue prepared → IsOk result }
         ensures err { OnErr result (self.new ≡ self.old) }
     {
@@ -373,7 +389,8 @@ impl KeySpace {
         requires absent { entry_at self.old key.now ≡ None }
         requires live { IsLive self.old.moment (shown (new_slot value)) }
         requires room { HasRoom value }
-        ensures entry { OnOk result (entry_at self.new ≡ put key.now (Some (shown (new_slot value))) (entry_at self.old)) }
+        ensures entry { OnOk result (entry_at self.new
+            ≡ put key.now (Some (shown (new_slot value))) (entry_at self.old)) }
         ensures moment { self.new.moment ≡ self.old.moment }
         ensures prepared { plan_at self.new ≡ plan_at self.old }
         ensures err { OnErr result (self.new ≡ self.old) }
@@ -392,7 +409,8 @@ impl KeySpace {
         number: i64,
     ) -> Result<(), AllocError>
         requires absent { entry_at self.old key.now ≡ None }
-        ensures entry { OnOk result (entry_at self.new ≡ put key.now (Some (entry_with_field field.now number None)) (entry_at self.old)) }
+        ensures entry { OnOk result (entry_at self.new
+            ≡ put key.now (Some (entry_with_field field.now number None)) (entry_at self.old)) }
         ensures moment { self.new.moment ≡ self.old.moment }
         ensures prepared { plan_at self.new ≡ plan_at self.old }
         ensures err { OnErr result (self.new ≡ self.old) }
@@ -406,7 +424,8 @@ impl KeySpace {
     fn use_hash(&mut self, key: &Brief, field: &Brief, number: i64)
         requires absent { entry_at self.old key.now ≡ None }
         requires prepared { IsTrue (is_plan_for ValueKind.Hash field.now (plan_at self.old key.now)) }
-        ensures entry { entry_at self.new ≡ put key.now (Some (entry_with_field field.now number None)) (entry_at self.old) }
+        ensures entry { entry_at self.new
+            ≡ put key.now (Some (entry_with_field field.now number None)) (entry_at self.old) }
         ensures moment { self.new.moment ≡ self.old.moment }
         ensures prepared { plan_at self.new ≡ put key.now None (plan_at self.old) }
     {
@@ -431,7 +450,8 @@ impl KeySpace {
     // Writes a counter that is there.
     fn write_counter(&mut self, key: &Brief, number: i64)
         requires { IsTrue (is_there (counter_at (entry_at self.old key.now))) }
-        ensures entry { entry_at self.new ≡ put key.now (Some (entry_with_number number (entry_at self.old key.now))) (entry_at self.old) }
+        ensures entry { entry_at self.new
+            ≡ put key.now (Some (entry_with_number number (entry_at self.old key.now))) (entry_at self.old) }
         ensures moment { self.new.moment ≡ self.old.moment }
         ensures prepared { plan_at self.new ≡ plan_at self.old }
     {
@@ -442,7 +462,8 @@ impl KeySpace {
     // Removes a field that is there, and with the last one the key.
     fn remove_field(&mut self, key: &Brief, field: &Brief)
         requires { IsTrue (is_there (field_at field.now (entry_at self.old key.now))) }
-        ensures entry { entry_at self.new ≡ put key.now (entry_without_field field.now (entry_at self.old key.now)) (entry_at self.old) }
+        ensures entry { entry_at self.new
+            ≡ put key.now (entry_without_field field.now (entry_at self.old key.now)) (entry_at self.old) }
         ensures moment { self.new.moment ≡ self.old.moment }
         ensures prepared { plan_at self.new ≡ plan_at self.old }
     {

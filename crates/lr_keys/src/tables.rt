@@ -15,7 +15,8 @@ use std::alloc::AllocError;
 
 // Takes a key out of a table, if it is to go.
 pub(crate) fn remove_if<T: Drop>(table: &mut IndexMap<Brief, T>, key: &Brief, gone: bool)
-    ensures table { (q : List ℕ) → get bytes_eq table.new q ≡ (if gone then put key.now None (get bytes_eq table.old) else get bytes_eq table.old) q }
+    ensures table { (q : List ℕ) → get bytes_eq table.new q
+        ≡ (if gone then put key.now None (get bytes_eq table.old) else get bytes_eq table.old) q }
     ensures fewer { index_map_len table.new ≤ index_map_len table.old }
     ensures room { spare table.old ≤ spare table.new }
 {
@@ -76,7 +77,8 @@ fn make_hash_room(slots: &mut IndexMap<Brief, Slot>, key: &Brief) -> Result<(), 
 // Puts a new key last, for which there is room.
 pub(crate) fn insert_slot(slots: &mut IndexMap<Brief, Slot>, key: &Brief, value: Stored)
     requires { 0 < spare slots.old }
-    ensures slots { (q : List ℕ) → get bytes_eq slots.new q ≡ put key.now (Some (new_slot value)) (get bytes_eq slots.old) q }
+    ensures slots { (q : List ℕ) → get bytes_eq slots.new q
+        ≡ put key.now (Some (new_slot value)) (get bytes_eq slots.old) q }
     ensures room { spare slots.old ≤ spare slots.new + 1 }
 {
     let slot = Slot {
@@ -118,7 +120,8 @@ fn least_expiry(slots: &IndexMap<Brief, Slot>) -> u64
 // Removes the keys that are gone at the moment, and gives a moment before which no other expires.
 pub(crate) fn remove_gone(slots: &mut IndexMap<Brief, Slot>, moment: u64) -> u64
     ensures slots { (q : List ℕ) → get bytes_eq slots.new q ≡ live_slot moment (get bytes_eq slots.old q) }
-    ensures bound { (q : List ℕ) → ForSome (get bytes_eq slots.new q) (λ slot. ForSome slot.expiry (λ expiry. result ≤ expiry)) }
+    ensures bound { (q : List ℕ)
+        → ForSome (get bytes_eq slots.new q) (λ slot. ForSome slot.expiry (λ expiry. result ≤ expiry)) }
     ensures room { spare slots.old ≤ spare slots.new }
 {
     // `len` is called for its clause that the keys differ, which the proof cites.

@@ -49,7 +49,8 @@ fn make_room(
         → IsPrepared keys.new key.now ValueKind.Hash (owner_text owner.now)) }
     ensures entries { entry_at keys.new ≡ entry_at keys.old }
     ensures moment { keys.new.moment ≡ keys.old.moment }
-    ensures there { IsTrue (is_some (live_entry (max keys.old.moment moment) (entry_at keys.old key.now))) → IsOk result }
+    ensures there { IsTrue (is_some (live_entry (max keys.old.moment moment) (entry_at keys.old key.now)))
+        → IsOk result }
     ensures err { OnErr result (keys.new ≡ keys.old) }
 {
     if is_there_at(keys, key, moment) {
@@ -187,12 +188,14 @@ fn known(keys: &KeySpace, op: &Op)
     }
 }
 
-/// Runs a function of a reentrant lock, as one step at a moment in milliseconds, or at that of the keys where that is later.
+/// Runs a function of a reentrant lock, as one step at a moment in milliseconds, or at that of the keys where that
+/// is later.
 ///
-/// Where the keys stand for some objects, the reply and the message are what the function gives for these, and afterwards the
-/// keys stand for what it makes of them. Memory that was prepared is given up.
+/// Where the keys stand for some objects, the reply and the message are what the function gives for these, and
+/// afterwards the keys stand for what it makes of them. Memory that was prepared is given up.
 ///
-/// Only a try that makes the lock's key takes memory. After an error nothing has changed: the moment and the keys are as before.
+/// Only a try that makes the lock's key takes memory. After an error nothing has changed: the moment and the keys
+/// are as before.
 pub fn run(
     alloc: Global,
     keys: &mut KeySpace,
@@ -205,7 +208,8 @@ pub fn run(
     ensures post { let m = max keys.old.moment moment in
         IfOk result (λ r. (objects : Objects) → StandsFor keys.old objects → r.1 ≡ post_of objects m op.now) }
     ensures stands { let m = max keys.old.moment moment in
-        OnOk result ((objects : Objects) → StandsFor keys.old objects → StandsFor keys.new (objects_after objects m op.now)) }
+        OnOk result ((objects : Objects) → StandsFor keys.old objects
+        → StandsFor keys.new (objects_after objects m op.now)) }
     ensures moment { OnOk result (keys.new.moment ≡ max keys.old.moment moment) }
     ensures settled { OnOk result (plan_at keys.new ≡ (λ _. None)) }
     ensures succeeds { let m = max keys.old.moment moment in

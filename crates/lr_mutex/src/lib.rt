@@ -1,6 +1,7 @@
 //! The functions of the reentrant lock, as steps over a key space.
 //!
-//! A lock is a hash from the text of its owner to the hold count, which expires at the hold's deadline, as Redisson keeps it.
+//! A lock is a hash from the text of its owner to the hold count, which expires at the hold's deadline, as Redisson
+//! keeps it.
 #![tactic(auto)]
 
 mod functions;

@@ -21,7 +21,8 @@ const MOST_HOLDS: i64 = 1_000_000;
 
 // How many times the owner holds the lock.
 fn holds(keys: &KeySpace, key: &Brief, owner: &Owner) -> i64
-    ensures { (held : Option Hold) → IsHeld keys.now.moment (entry_at keys.now key.now) held → result ≡ pos (count_of owner.now held) }
+    ensures { (held : Option Hold) → IsHeld keys.now.moment (entry_at keys.now key.now) held
+        → result ≡ pos (count_of owner.now held) }
 {
     match keys.hget(key, &owner.brief()) {
         Ok(Some(count)) => count,
@@ -31,7 +32,8 @@ fn holds(keys: &KeySpace, key: &Brief, owner: &Owner) -> i64
 
 // How long the hold of the lock lasts.
 fn remaining(keys: &KeySpace, key: &Brief) -> Remaining
-    ensures { (hold : Hold) → IsHeld keys.now.moment (entry_at keys.now key.now) (Some hold) → result ≡ hold.deadline - keys.now.moment }
+    ensures { (hold : Hold) → IsHeld keys.now.moment (entry_at keys.now key.now) (Some hold)
+        → result ≡ hold.deadline - keys.now.moment }
 {
     // The key of a lock expires, and later than now.
     Remaining::new(keys.pttl(key).max(1) as u64)
@@ -41,9 +43,12 @@ fn remaining(keys: &KeySpace, key: &Brief) -> Remaining
 fn add(alloc: Global, keys: &mut KeySpace, key: &Brief, owner: &Brief, by: i64, lease: u64)
     requires lease { IsTrue (is_lease lease) }
     ensures made { IsPrepared keys.old key.now ValueKind.Hash owner.now → entry_at keys.old key.now ≡ None
-        → entry_at keys.new ≡ put key.now (Some (one_field owner.now by (keys.old.moment + lease))) (entry_at keys.old) }
-    ensures added { (count : ℤ) (expiry : ℕ) → entry_at keys.old key.now ≡ Some (one_field owner.now count expiry) → IsTrue (is_i64 (count +ℤ by))
-        → entry_at keys.new ≡ put key.now (Some (one_field owner.now (count +ℤ by) (keys.old.moment + lease))) (entry_at keys.old) }
+        → entry_at keys.new
+        ≡ put key.now (Some (one_field owner.now by (keys.old.moment + lease))) (entry_at keys.old) }
+    ensures added { (count : ℤ) (expiry : ℕ)
+        → entry_at keys.old key.now ≡ Some (one_field owner.now count expiry) → IsTrue (is_i64 (count +ℤ by))
+        → entry_at keys.new
+        ≡ put key.now (Some (one_field owner.now (count +ℤ by) (keys.old.moment + lease))) (entry_at keys.old) }
     ensures moment { keys.new.moment ≡ keys.old.moment }
 {
     // It can't fail: the field is there, or it was prepared.
@@ -60,7 +65,8 @@ pub(crate) fn take(
     lease: u64,
 ) -> Reply
     requires lease { IsTrue (is_lease lease) }
-    requires memory { entry_at keys.old key.now ≡ None → IsPrepared keys.old key.now ValueKind.Hash (owner_text owner.now) }
+    requires memory { entry_at keys.old key.now ≡ None
+        → IsPrepared keys.old key.now ValueKind.Hash (owner_text owner.now) }
     ensures step { (held : Option Hold) → IsHeld keys.old.moment (entry_at keys.old key.now) held
         → IsStep (entry_at keys.old) (entry_at keys.new) key.now result (try_lock keys.old.moment owner.now lease held) }
     ensures moment { keys.new.moment ≡ keys.old.moment }

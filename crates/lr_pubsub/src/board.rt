@@ -344,7 +344,8 @@ impl Board {
     // Drops an open connection.
     fn drop_out(&mut self, conn: u32)
         requires { IsTrue (is_open (board_of self.old conn)) }
-        ensures { board_of self.new ≡ with_connection (board_of self.old) conn (dropped_now (board_of self.old conn)) }
+        ensures { board_of self.new
+            ≡ with_connection (board_of self.old) conn (dropped_now (board_of self.old conn)) }
     {
         self.ready = None;
         leave_all(
@@ -420,7 +421,8 @@ fn tell_all(slots: &mut Vec<Slot>, listeners: &[u32], post: &Post, full: &mut Ve
     ensures board { (conn : ℕ) → connection_at slots.new.items conn
         ≡ told_so post.now listeners.now (connection_at slots.old.items) conn }
     ensures reached { result ≡ length (filter (λ conn. has_room (connection_at slots.old.items conn)) listeners.now) }
-    ensures full { full.new.items ≡ filter (λ conn. not (has_room (connection_at slots.old.items conn))) listeners.now }
+    ensures full { full.new.items
+        ≡ filter (λ conn. not (has_room (connection_at slots.old.items conn))) listeners.now }
 {
     let mut reached: u32 = 0;
     for conn in listeners {

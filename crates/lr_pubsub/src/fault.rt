@@ -16,6 +16,11 @@ pub enum BoardFault {
 }
 
 impl fmt::Display for BoardFault {
+    ghost use Rattle.std.specs.Prelude.{Some};
+    ghost use Rattle.lr_pubsub.specs.Fault.{fault_text};
+
+    ghost output = { λ fault. Some (fault_text fault) };
+
     fn fmt<W: fmt::Write>(&self, f: &mut fmt::Formatter<W>) -> fmt::Result {
         f.write_str(match self {
             BoardFault::Dropped => "the connection was dropped: it read too slowly",

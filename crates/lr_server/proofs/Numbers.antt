@@ -3,6 +3,7 @@ use Rattle.std.proofs.Common.{◌≡◌, ℕ, zero, suc, ◌+◌, ◌<◌, ◌�
 use Rattle.std.proofs.lemmas.Bool.{cases_eq}
 use Rattle.std.proofs.lemmas.Option.{none-some, same_Some}
 use Rattle.lr_model.specs.Board.{numbers_below}
+use Rattle.lr_pubsub.proofs.Numbers.{below_same}
 
 -- the number n, where it passes
 abbrev last : Bool → ℕ → List ℕ
@@ -30,14 +31,6 @@ unfolding numbers_below
 below_most zero p = omega arith
 below_most (suc n) p = omega (arith, below_more n p, one_at_most (p n), below_most n p)
 
--- tests that agree below the bound give as many
-below_same : (n : ℕ) (p q : ℕ → Bool) → ((c : ℕ) → c < n → p c ≡ q c) → length (numbers_below n p) ≡ length (numbers_below n q)
-unfolding numbers_below
-below_same zero p q same = refl
-below_same (suc n) p q same =
-    let here : one_if (p n) ≡ one_if (q n) = ap one_if (same n (omega arith)) in
-    omega (arith, below_more n p, below_more n q, here, below_same n p q (λ c below. same c (omega arith)))
-
 -- where one number passes no longer, they are one fewer
 pub below_fewer : (n : ℕ) (p q : ℕ → Bool) (conn : ℕ) → conn < n → p conn ≡ true → q conn ≡ false → ((c : ℕ) → (c ≡ conn → ⊥) → p c ≡ q c)
     → length (numbers_below n q) + 1 ≡ length (numbers_below n p)
@@ -48,16 +41,17 @@ below_fewer (suc n) p q conn below was is same = by_order (cases_eq n conn) (λ 
     by_order (inl at) rest =
         let one : one_if (p n) ≡ 1 = ap one_if (ap p at ∙ was) in
         let none : one_if (q n) ≡ 0 = ap one_if (ap q at ∙ is) in
-        omega (arith, below_more n p, below_more n q, one, none, below_same n p q (λ c lesser. same c (λ e. omega arith)))
+        let as_many = ap length (below_same n p q (λ c lesser. same c (λ e. omega arith))) in
+        omega (arith, below_more n p, below_more n q, one, none, as_many)
     by_order (inr apart) rest =
         let here : one_if (p n) ≡ one_if (q n) = ap one_if (same n apart) in
         omega (arith, below_more n p, below_more n q, here, rest (omega arith))
 
 -- the least of them is below the bound, and passes
-pub below_first : (n : ℕ) (p : ℕ → Bool) (conn : ℕ) → slice_get (numbers_below n p) 0 ≡ Some conn → (conn < n) × (p conn ≡ true)
+pub least_below : (n : ℕ) (p : ℕ → Bool) (conn : ℕ) → slice_get (numbers_below n p) 0 ≡ Some conn → (conn < n) × (p conn ≡ true)
 unfolding numbers_below
-below_first zero p conn found = absurd (none-some conn found)
-below_first (suc n) p conn found = by (numbers_below n p) (p n) refl (below_first n p conn) found
+least_below zero p conn found = absurd (none-some conn found)
+least_below (suc n) p conn found = by (numbers_below n p) (p n) refl (least_below n p conn) found
   where
     by : (numbers : List ℕ) (b : Bool) → p n ≡ b → (slice_get numbers 0 ≡ Some conn → (conn < n) × (p conn ≡ true)) → slice_get (numbers ++ last b n) 0 ≡ Some conn
         → (conn < suc n) × (p conn ≡ true)

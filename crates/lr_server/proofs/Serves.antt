@@ -18,7 +18,7 @@ use Rattle.lr_pubsub.specs.Listed.{Listed, board_of}
 use Rattle.lr_server.specs.Server.{Known, state_of, connection_of, is_asked}
 use Rattle.lr_server.specs.declared.answered.Answered.{Answered}
 use Rattle.lr_server.specs.Serving.{IsServing, IsHeld, IsDone}
-use Rattle.lr_server.proofs.Numbers.{below_most, below_fewer, below_first}
+use Rattle.lr_server.proofs.Numbers.{below_most, below_fewer, least_below}
 
 -- a message leaves a connection open or closed
 told_open : (post : Post) (connection : Connection) → is_open (told post connection) ≡ is_open connection
@@ -68,7 +68,7 @@ is_numbered board conn numbered opened = by (cases_lt conn connection_limit)
 -- the least free number is below the limit, and no connection is open there
 pub least_is_free : (board : Board) (conn : ℕ) → slice_get (free_numbers board) 0 ≡ Some conn → (conn < connection_limit) × (is_open (board conn) ≡ false)
 least_is_free board conn free =
-    let first : (conn < connection_limit) × (not (is_open (board conn)) ≡ true) = below_first connection_limit (λ c. not (is_open (board c))) conn free in
+    let first : (conn < connection_limit) × (not (is_open (board conn)) ≡ true) = least_below connection_limit (λ c. not (is_open (board c))) conn free in
     (first.0, not-true (is_open (board conn)) first.1)
 
 -- a server that has just started

@@ -1,2 +1,3 @@
 pub mod Server
 pub mod Serving
+pub mod Fault

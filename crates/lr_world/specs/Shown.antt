@@ -7,4 +7,5 @@ use Rattle.lr_model.specs.declared.shown.Replied.{Replied}
 
 -- a reply, and the message that was sent with the number of connections that it reached
 abbrev pub shown_of : Reply → Option Post → ℕ → Replied
-shown_of reply post connections = record { reply = reply; post = option_map (λ p. record { channel = p.channel; connections = connections }) post }
+shown_of reply post connections =
+    record { reply = reply; post = option_map (λ p. record { channel = p.channel; connections = connections }) post }

@@ -34,9 +34,11 @@ pub fn play_top<S: Source, K: Sink>(
     ensures done { result ≡ Status.Done
         → WhereTold (S.left source.old) (S.left source.new) (K.held sink.old) (K.held sink.new) RanThrough }
     ensures bad_line { (number : ℕ) → result ≡ Status.BadLine number
-        → WhereTold (S.left source.old) (S.left source.new) (K.held sink.old) (K.held sink.new) (λ all rest before held. StoppedAt number kinds.Bad all before held) }
+        → WhereTold (S.left source.old) (S.left source.new) (K.held sink.old) (K.held sink.new)
+        (λ all rest before held. StoppedAt number kinds.Bad all before held) }
     ensures too_many { (number : ℕ) → result ≡ Status.TooMany number
-        → WhereTold (S.left source.old) (S.left source.new) (K.held sink.old) (K.held sink.new) (λ all rest before held. StoppedAt number kinds.TooMany all before held) }
+        → WhereTold (S.left source.old) (S.left source.new) (K.held sink.old) (K.held sink.new)
+        (λ all rest before held. StoppedAt number kinds.TooMany all before held) }
     ensures read_fault { result ≡ Status.ReadFault
         → WhereTold (S.left source.old) (S.left source.new) (K.held sink.old) (K.held sink.new) BrokeOff }
     ensures write_fault { result ≡ Status.WriteFault
