@@ -1,7 +1,8 @@
 use crate::run;
-use lr_keys::KeySpace;
+use lr_keys::{KeySpace, MAX_MOMENT};
 use lr_names::{Name, Owner, Part, key};
 use lr_objects::{Op, Remaining, Reply};
+use lr_text::Brief;
 use std::alloc::{AllocError, Global};
 use std::test::Fail;
 
@@ -9,15 +10,16 @@ const ONE: &[u8] = b"11111111-2222-3333-4444-555555555555:1";
 
 const TWO: &[u8] = b"11111111-2222-3333-4444-555555555555:2";
 
-// What a call at the moment is answered, and whether it sends a message.
-fn answer(
+// Whether a call at the moment is answered so, and sends a message or not.
+fn answers(
     alloc: Global,
     keys: &mut KeySpace,
     moment: u64,
     op: &Op,
-) -> Result<(Reply, bool), AllocError> {
-    let (reply, post) = run(alloc, keys, moment.min(9_007_199_254_740_991), op)?;
-    Ok((reply, post.is_some()))
+    wanted: (Reply, bool),
+) -> Result<bool, AllocError> {
+    let (reply, post) = run(alloc, keys, moment.min(MAX_MOMENT), op)?;
+    Ok(reply == wanted.0 && post.is_some() == wanted.1)
 }
 
 fn busy(millis: u64) -> Reply {
@@ -27,11 +29,9 @@ fn busy(millis: u64) -> Reply {
 #[test]
 fn the_life_of_a_lock(rt: HostRuntime) -> Result<(), Fail> {
     let mut keys = KeySpace::new(rt.alloc())?;
-    let (Ok(name), Ok(one), Ok(two)) = (Name::parse(b"a"), Owner::parse(ONE), Owner::parse(TWO))
-    else {
-        assert!(rt; false);
-        return Ok(());
-    };
+    let name = Name::parse(b"a")?;
+    let one = Owner::parse(ONE)?;
+    let two = Owner::parse(TWO)?;
     let take = |owner: Owner, lease: u64| Op::LockTry { name, owner, lease };
     let give = |owner: Owner, rest: u64| Op::LockUnlock { name, owner, rest };
     let renew = |owner: Owner, lease: u64| Op::LockRenew { name, owner, lease };
@@ -54,38 +54,40 @@ fn the_life_of_a_lock(rt: HostRuntime) -> Result<(), Fail> {
         (2_010, take(one, 100), Reply::Granted, false),
         (5, force, Reply::Freed, true),
     ] {
-        assert_eq!(rt; answer(rt.alloc(), &mut keys, moment, &op)?, (reply, posts));
+        assert!(rt; answers(rt.alloc(), &mut keys, moment, &op, (reply, posts))?);
     }
-    assert_eq!(rt; keys.moment(), 2_010);
-    assert!(rt; !keys.exists(&key(Part::Lock, &name)));
+    assert!(rt; keys.moment() == 2_010 && !keys.exists(&key(Part::Lock, &name)));
     Ok(())
+}
+
+// Whether a lock that is held 999,999 times is held once more, and then refused, with so much left of its lease.
+fn is_too_deep(
+    alloc: Global,
+    keys: &mut KeySpace,
+    lock: &Brief,
+    owner: &Owner,
+    take: &Op,
+) -> Result<bool, AllocError> {
+    let made = keys.hincrby(alloc, lock, &owner.brief(), 999_999) == Ok(999_999);
+    let expires = keys.pexpire(lock, 50);
+    let granted = answers(alloc, keys, 10, take, (Reply::Granted, false))?;
+    let left = keys.pttl(lock) == 70;
+    let refused = answers(alloc, keys, 20, take, (Reply::TooDeep, false))?;
+    let still = keys.pttl(lock) == 60 && keys.hget(lock, &owner.brief()) == Ok(Some(1_000_000));
+    Ok(made && expires && granted && left && refused && still)
 }
 
 #[test]
 fn a_million_holds(rt: HostRuntime) -> Result<(), Fail> {
     let mut keys = KeySpace::new(rt.alloc())?;
-    let (Ok(name), Ok(owner)) = (Name::parse(b"a"), Owner::parse(ONE)) else {
-        assert!(rt; false);
-        return Ok(());
-    };
-    let lock = key(Part::Lock, &name);
-    assert_eq!(rt;
-        keys.hincrby(rt.alloc(), &lock, &owner.brief(), 999_999),
-        Ok(999_999)
-    );
-    assert!(rt; keys.pexpire(&lock, 50));
+    let name = Name::parse(b"a")?;
+    let owner = Owner::parse(ONE)?;
     let take = Op::LockTry {
         name,
         owner,
         lease: 70,
     };
-    for (moment, reply, left) in [(10, Reply::Granted, 70), (20, Reply::TooDeep, 60)] {
-        assert_eq!(rt;
-            answer(rt.alloc(), &mut keys, moment, &take)?,
-            (reply, false)
-        );
-        assert_eq!(rt; keys.pttl(&lock), left);
-        assert_eq!(rt; keys.hget(&lock, &owner.brief()), Ok(Some(1_000_000)));
-    }
+    let lock = key(Part::Lock, &name);
+    assert!(rt; is_too_deep(rt.alloc(), &mut keys, &lock, &owner, &take)?);
     Ok(())
 }

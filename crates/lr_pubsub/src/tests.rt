@@ -48,37 +48,65 @@ fn close(board: &mut Board, conn: u32) -> Result<(), Fail> {
     Ok(())
 }
 
+// Whether the connections 1 and 3 subscribe, and are told how many channels they then have: a repeat too.
+fn subscriptions_are_counted(
+    board: &mut Board,
+    orders: &Channel,
+    stock: &Channel,
+) -> Result<bool, Fail> {
+    let third = subscribe(board, 3, orders)?;
+    let first = subscribe(board, 1, stock)?;
+    let second = subscribe(board, 1, orders)?;
+    let again = subscribe(board, 1, orders)?;
+    Ok(third == 1 && first == 1 && second == 2 && again == 2)
+}
+
+// Whether a message reaches so many connections, and drops none.
+fn reaches(board: &mut Board, channel: Channel, connections: u32) -> Result<bool, Fail> {
+    board.reserve(&channel)?;
+    let posted = board.post(&message(channel))?;
+    Ok(posted.reached == connections && posted.dropped.is_empty())
+}
+
+// Whether these four wait for connection 1, the oldest first, and no more than one behind them.
+fn hands_out(board: &mut Board, wanted: [Push; 4]) -> Result<bool, Fail> {
+    let pushes = drain(board, 1, 4)?;
+    Ok(pushes.as_slice() == wanted.as_slice() && board.waiting(1) == 1)
+}
+
+// Whether connection 1 is the next one, once it was closed.
+fn is_free_once_closed(board: &mut Board) -> Result<bool, Fail> {
+    close(board, 1)?;
+    Ok(board.next_free() == Some(1))
+}
+
 #[test]
 fn a_message_reaches_the_subscribed(rt: HostRuntime) -> Result<(), Fail> {
     let orders = channel(b"orders")?;
     let stock = channel(b"stock")?;
     let mut board = Board::new(rt.alloc(), 3)?;
-    for (conn, channel, count) in [
-        (3, orders, 1),
-        (1, stock, 1),
-        (1, orders, 2),
-        (1, orders, 2),
-    ] {
-        assert_eq!(rt; subscribe(&mut board, conn, &channel)?, count);
-    }
-
-    board.reserve(&orders)?;
-    let posted = board.post(&message(orders))?;
-    assert_eq!(rt; posted.reached, 2);
-    assert!(rt; posted.dropped.is_empty());
-    assert_eq!(rt; unsubscribe(&mut board, 1, &orders)?, 1);
-    let posted = board.post(&message(orders))?;
-    assert_eq!(rt; posted.reached, 1);
-
-    let pushes = drain(&mut board, 1, 4)?;
-    let Some(last) = pushes.as_slice().last() else {
-        return Err("nothing waits".into());
-    };
-    assert_eq!(rt; *last, Push::Message(orders, Wakes::One));
-    assert_eq!(rt; board.waiting(1), 1);
-    close(&mut board, 1)?;
-    assert_eq!(rt; board.next_free(), Some(1));
+    let counted = subscriptions_are_counted(&mut board, &orders, &stock)?;
+    let both = reaches(&mut board, orders, 2)?;
+    let left = unsubscribe(&mut board, 1, &orders)?;
+    let one = reaches(&mut board, orders, 1)?;
+    let told = [
+        Push::Subscribed(stock, 1),
+        Push::Subscribed(orders, 2),
+        Push::Subscribed(orders, 2),
+        Push::Message(orders, Wakes::One),
+    ];
+    let handed_out = hands_out(&mut board, told)?;
+    let free = is_free_once_closed(&mut board)?;
+    assert!(rt; counted && both && left == 1 && one && handed_out && free);
     Ok(())
+}
+
+// Whether a message drops connection 1, and it alone, with all that it had.
+fn drops_the_first(board: &mut Board, channel: Channel) -> Result<bool, Fail> {
+    let posted = board.post(&message(channel))?;
+    let listed = posted.reached == 0 && posted.dropped.as_slice() == [1].as_slice();
+    let gone = board.channel_count(1) == 0 && board.waiting(1) == 0;
+    Ok(listed && gone && board.is_dropped(1))
 }
 
 #[test]
@@ -88,17 +116,8 @@ fn a_connection_that_reads_too_slowly_is_dropped(rt: HostRuntime) -> Result<(), 
     for _ in 0..MOST_WAITING {
         subscribe(&mut board, 1, &orders)?;
     }
-    let posted = board.post(&message(orders))?;
-    assert_eq!(rt; posted.reached, 0);
-    assert_eq!(rt; posted.dropped.as_slice(), [1].as_slice());
-    assert!(rt; board.is_dropped(1));
-    assert_eq!(rt; board.channel_count(1), 0);
-    assert_eq!(rt; board.waiting(1), 0);
-
-    close(&mut board, 1)?;
-    let Some(conn) = board.next_free() else {
-        return Err("none is free".into());
-    };
-    assert_eq!(rt; conn, 1);
+    let dropped = drops_the_first(&mut board, orders)?;
+    let free = is_free_once_closed(&mut board)?;
+    assert!(rt; dropped && free);
     Ok(())
 }
