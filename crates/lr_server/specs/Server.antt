@@ -98,7 +98,7 @@ is_stopped (acts.Drain most) connection = connection.dropped
 abbrev pub is_only_subscribed : Act → Connection → Bool
 is_only_subscribed act connection = is_call act && is_subscriber connection
 
--- the fault of an act: a full history comes before a dropped connection
+-- the fault of a request's act, if it has one: a full history comes before a dropped connection
 abbrev pub fault_of : Known → ℕ → Act → Option StepFault
 fault_of known conn act =
     if is_only_subscribed act (connection_of known conn) then None
@@ -106,7 +106,8 @@ fault_of known conn act =
     else if is_stopped act (connection_of known conn) then Some faults.Dropped
     else None
 
--- what an act answers at a moment
+-- What the act of a request answers at a moment. No request asks for an open, a close or a drain: they are calls of their
+-- own, and nothing rests on their lines here.
 abbrev pub answer_of : State → ℕ → ℕ → Act → Answer
 answer_of state moment conn (acts.Call op) = answers.Reply (reply_of state.objects moment op)
 answer_of state moment conn (acts.Subscribe channel) = answers.Queued (length (with_channel channel (state.board conn)))
@@ -134,7 +135,8 @@ abbrev pub dropped_of : Option Post → Board → List ℕ
 dropped_of (Some post) board = dropped_by post board
 dropped_of None board = []
 
--- The step of an act, with a call on a connection that has a channel left out: that is no step.
+-- The step of a request's act. A call on a connection that has a channel is no step: it is answered so, and nothing else
+-- comes of it.
 
 -- what is answered
 abbrev pub answer_at : Known → ℕ → ℕ → Act → Answer
