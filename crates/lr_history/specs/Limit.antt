@@ -1,12 +1,9 @@
 -- When a history takes no more: a limit of this project's own.
 use Rattle.std.specs.Prelude.{ℕ, Bool, true, false, ◌&&◌, nat_le, List, length}
+use Rattle.lr_limits.specs.Limits.{entry_limit}
 use Rattle.lr_model.specs.declared.entry.Act.{Act}
 use Rattle.lr_model.specs.declared.entry.Act.TheVariants.{Call, Subscribe, Unsubscribe, Open, Close, Drain}
 use Rattle.lr_model.specs.declared.entry.Entry.{Entry}
-
--- how many entries a history takes
-abbrev pub most_entries : ℕ
-most_entries = 2000000
 
 -- whether the limit holds for an act: for all but a close, so that every connection can be closed
 abbrev pub is_limited : Act → Bool
@@ -19,4 +16,4 @@ is_limited (Drain most) = true
 
 -- whether a history of these entries refuses an act: it has as many entries as it may
 abbrev pub is_refused : List Entry → Act → Bool
-is_refused entries act = is_limited act && nat_le most_entries (length entries)
+is_refused entries act = is_limited act && nat_le entry_limit (length entries)

@@ -4,9 +4,8 @@ use Rattle.lr_objects.specs.declared.reply.Reply.{Reply}
 use Rattle.lr_model.specs.declared.entry.Entry.{Entry}
 use Rattle.lr_model.specs.declared.waiter.ThreadId.{ThreadId}
 use Rattle.lr_model.specs.declared.waiter.Waiter.{Waiter}
-use Rattle.lr_model.specs.Moment.{last_moment}
 use Rattle.lr_model.specs.Sound.{IsInOrder}
-use Rattle.lr_model.specs.Transcript.{event_limit}
+use Rattle.lr_limits.specs.Limits.{event_limit, last_moment}
 use Rattle.lr_model.specs.Table.{put}
 use Rattle.lr_model.specs.World.{World, same_thread}
 use Rattle.lr_machine.specs.Waiters.{request_of}

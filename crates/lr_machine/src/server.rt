@@ -1,6 +1,6 @@
 ghost use Rattle.std.specs.Prelude.{◌≡◌, ◌<◌, ◌≤◌, List, [], ◌∷◌, ◌++◌, length, IfOk, OnOk, OnErr};
 ghost use Rattle.lr_model.specs.declared.entry.Entry.{Entry};
-ghost use Rattle.lr_model.specs.Moment.{last_moment};
+ghost use Rattle.lr_limits.specs.Limits.{last_moment};
 ghost use Rattle.lr_model.specs.History.{after, MayFollow};
 ghost use Rattle.lr_model.specs.World.{first_state, call_entry, replied_at};
 

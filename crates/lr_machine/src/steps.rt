@@ -3,7 +3,7 @@ ghost use Rattle.std.specs.Prelude.{◌≡◌, ◌<◌, ◌≤◌, List, [], ◌
 ghost use Rattle.lr_objects.specs.declared.op.Op.TheVariants.{LockForce};
 ghost use Rattle.lr_names.specs.Owner.{IsThread};
 ghost use Rattle.lr_model.specs.declared.shown.Shown.TheVariants as shows;
-ghost use Rattle.lr_model.specs.Moment.{last_moment};
+ghost use Rattle.lr_limits.specs.Limits.{last_moment};
 ghost use Rattle.lr_model.specs.Within.{IsClient};
 ghost use Rattle.lr_model.specs.World.{owner_of, phase_of, begin_row, ask_row, asked_of, waiting_reply, shown_row, shown_exec, shown_take, replied_at, first_state, next_exec, call_entry, caller_of, command_connection, asked_at, ask_at, at_stage, reply_at};
 ghost use Rattle.lr_model.specs.declared.waiter.Stage.TheVariants.{Answered};

@@ -14,7 +14,7 @@ use Rattle.lr_model.specs.declared.entry.Entry.{Entry}
 use Rattle.lr_model.specs.declared.hold.Hold.{Hold}
 use Rattle.lr_model.specs.Mutex.{live_hold}
 use Rattle.lr_model.specs.Answer.{Objects, name_of, outcome_of, reply_of}
-use Rattle.lr_model.specs.History.{State, step, after, started, IsLegal, objects_by}
+use Rattle.lr_model.specs.History.{State, step, after, state_at_start, IsLegal, objects_by}
 use Rattle.lr_model.specs.Tenure.{Tenure, is_current, no_tenure, tenure_by_call, tenure_by_act, tenure_after, holds_at, NoConflict}
 use Rattle.lr_model.proofs.Owners.{same_owner_equiv}
 use Rattle.lr_model.proofs.Tenures.{IsHeld, Stands, called}
@@ -83,16 +83,16 @@ two_owners a b t u held h k =
     some_is : (x y : Hold) → Some x ≡ Some y → x ≡ y
     some_is x y e = cc
 
-pub no_conflict : (last : ℕ) (entries : List Entry) → IsLegal (started last) entries → NoConflict (started last) entries
+pub no_conflict : (last : ℕ) (entries : List Entry) → IsLegal (state_at_start last) entries → NoConflict (state_at_start last) entries
 no_conflict last entries legal name a b moment le other current = decided (holds_at first entries name b moment) refl
   where
     first : State
-    first = started last
+    first = state_at_start last
 
-    held_by : (o : ThreadOfClient) → holds_at (started last) entries name o moment ≡ true → IsHeld o (tenure_after name o (started last) entries no_tenure) ((after (started last) entries).objects.mutexes name)
+    held_by : (o : ThreadOfClient) → holds_at (state_at_start last) entries name o moment ≡ true → IsHeld o (tenure_after name o (state_at_start last) entries no_tenure) ((after (state_at_start last) entries).objects.mutexes name)
     held_by o h =
-        (waited o _ moment _ _ le (history_keeps name o entries (started last) no_tenure legal (record { held_while = λ c. absurd (false≢true c) }))).held_while h
+        (waited o _ moment _ _ le (history_keeps name o entries (state_at_start last) no_tenure legal (record { held_while = λ c. absurd (false≢true c) }))).held_while h
 
-    decided : (r : Bool) → holds_at (started last) entries name b moment ≡ r → r ≡ false
+    decided : (r : Bool) → holds_at (state_at_start last) entries name b moment ≡ r → r ≡ false
     decided false e = refl
     decided true e = absurd (false≢true (sym other ∙ two_owners a b _ _ _ (held_by a current) (held_by b e)))

@@ -14,7 +14,7 @@ use Rattle.lr_model.specs.declared.waiter.Waiter.{Waiter}
 use Rattle.lr_objects.specs.declared.op.Op.TheVariants.{LockForce}
 use Rattle.lr_objects.specs.declared.reply.Reply.{Reply}
 use Rattle.lr_model.specs.Answer.{post_of}
-use Rattle.lr_model.specs.Board.{Board, Connection, opened_by, closed, posted, told}
+use Rattle.lr_model.specs.Board.{Board, Connection, new_connection, closed_connection, board_after_post, connection_after_post}
 use Rattle.lr_model.specs.History.{State, step, after, CanCall, MayFollow}
 use Rattle.lr_model.specs.Within.{IsWithin, IsClient}
 use Rattle.lr_model.specs.World.{World, first_state, first_world, thread_of, call_entry, next_row, next_exec, next_take, next, world_after, begin_row, ask_row, asked_of, waiting_reply, signed, acts_by, acts_of, act_of_exec, acts_made, caller_of, command_connection}
@@ -24,10 +24,10 @@ use Rattle.lr_model.proofs.Conflicts.{no_conflict}
 
 -- a connection of a server that has just started
 abbrev first_connection : Bool → Connection
-first_connection b = if b then opened_by 0 else closed
+first_connection b = if b then new_connection 0 else closed_connection
 
 -- a message leaves a connection without channels as it is
-unreached : (post : Post) (connection : Connection) → connection.channels ≡ [] → told post connection ≡ connection
+unreached : (post : Post) (connection : Connection) → connection.channels ≡ [] → connection_after_post post connection ≡ connection
 unreached post connection e = rw e refl
 
 pub no_channels : (conn : ℕ) → (first_state.board conn).channels ≡ []
@@ -37,7 +37,7 @@ no_channels conn = by_case (nat_le conn 128)
     by_case true = refl
     by_case false = refl
 
-pub posted_quiet : (post : Option Post) (board : Board) → ((conn : ℕ) → board conn ≡ first_state.board conn) → (conn : ℕ) → posted post board conn ≡ first_state.board conn
+pub posted_quiet : (post : Option Post) (board : Board) → ((conn : ℕ) → board conn ≡ first_state.board conn) → (conn : ℕ) → board_after_post post board conn ≡ first_state.board conn
 posted_quiet None board quiet conn = quiet conn
 posted_quiet (Some post) board quiet conn =
     let none : (board conn).channels ≡ [] = ap (λ (c : Connection). c.channels) (quiet conn) ∙ no_channels conn in

@@ -3,6 +3,7 @@
 use Rattle.std.specs.Prelude.{ℕ, zero, suc, ◌==◌, nat_lt, List, [], ◌∷◌, ◌++◌, length, drop, filter, Bool, true, false, not, ◌&&◌, Option, Some, None, is_some, if◌then◌else◌}
 use Rattle.std.specs.List.{list_any}
 use Rattle.std.specs.Str.{bytes_eq}
+use Rattle.lr_limits.specs.Limits.{connection_limit, outbox_limit}
 use Rattle.lr_names.specs.Owner.{ThreadOfClient, same_owner}
 use Rattle.lr_names.specs.Channel.{ChannelOf}
 use Rattle.lr_names.specs.declared.kind.Kind.{Kind}
@@ -24,22 +25,15 @@ abbrev pub Board : Type 0
 Board = ℕ → Connection
 
 -- a number at which no connection is open
-abbrev pub closed : Connection
-closed = record { opener = None; channels = []; outbox = []; dropped = false }
+abbrev pub closed_connection : Connection
+closed_connection = record { opener = None; channels = []; outbox = []; dropped = false }
 
 -- a connection that this caller has just opened
-abbrev pub opened_by : ℕ → Connection
-opened_by caller = record { opener = Some caller; channels = []; outbox = []; dropped = false }
+abbrev pub new_connection : ℕ → Connection
+new_connection caller = record { opener = Some caller; channels = []; outbox = []; dropped = false }
 
 abbrev pub is_open : Connection → Bool
 is_open connection = is_some connection.opener
-
--- how many connections a server has at most, and how many items an outbox
-abbrev pub connection_limit : ℕ
-connection_limit = 256
-
-abbrev pub outbox_limit : ℕ
-outbox_limit = 16384
 
 -- a number for each kind
 abbrev pub kind_number : Kind → ℕ
@@ -79,24 +73,24 @@ abbrev pub is_overrun : Post → Connection → Bool
 is_overrun post connection = has_channel post.channel connection && not (has_room connection)
 
 -- a connection that reads too slowly: it loses its channels and what waited for it
-abbrev pub dropped_now : Connection → Connection
-dropped_now connection = record { opener = connection.opener; channels = []; outbox = []; dropped = true }
+abbrev pub dropped_connection : Connection → Connection
+dropped_connection connection = record { opener = connection.opener; channels = []; outbox = []; dropped = true }
 
 -- a connection with one more item in its outbox
 abbrev pub with_item : Push → Connection → Connection
 with_item push connection = record { opener = connection.opener; channels = connection.channels; outbox = connection.outbox ++ push ∷ []; dropped = connection.dropped }
 
 -- a connection after a message
-abbrev pub told : Post → Connection → Connection
-told post connection =
+abbrev pub connection_after_post : Post → Connection → Connection
+connection_after_post post connection =
     if has_channel post.channel connection
-    then (if has_room connection then with_item (Message post.channel post.wakes) connection else dropped_now connection)
+    then (if has_room connection then with_item (Message post.channel post.wakes) connection else dropped_connection connection)
     else connection
 
 -- A message goes to exactly those that have subscribed.
-abbrev pub posted : Option Post → Board → Board
-posted None board = board
-posted (Some post) board = λ conn. told post (board conn)
+abbrev pub board_after_post : Option Post → Board → Board
+board_after_post None board = board
+board_after_post (Some post) board = λ conn. connection_after_post post (board conn)
 
 -- the numbers below n that pass a test, in order
 unfoldable pub numbers_below : ℕ → (ℕ → Bool) → List ℕ
@@ -119,20 +113,20 @@ abbrev pub without_channel : ChannelOf → Connection → List ChannelOf
 without_channel channel connection = filter (λ other. not (same_channel channel other)) connection.channels
 
 -- the connection with these channels, and the acknowledgement in its outbox
-abbrev pub acknowledged : List ChannelOf → Push → Connection → Connection
-acknowledged channels push connection = record { opener = connection.opener; channels = channels; outbox = connection.outbox ++ push ∷ []; dropped = connection.dropped }
+abbrev pub with_acknowledgement : List ChannelOf → Push → Connection → Connection
+with_acknowledgement channels push connection = record { opener = connection.opener; channels = channels; outbox = connection.outbox ++ push ∷ []; dropped = connection.dropped }
 
 -- a connection after it subscribes to a channel; a repeat is acknowledged again
-abbrev pub subscribed : ChannelOf → Connection → Connection
-subscribed channel connection = acknowledged (with_channel channel connection) (Subscribed channel (length (with_channel channel connection))) connection
+abbrev pub connection_after_subscribe : ChannelOf → Connection → Connection
+connection_after_subscribe channel connection = with_acknowledgement (with_channel channel connection) (Subscribed channel (length (with_channel channel connection))) connection
 
 -- a connection after it leaves a channel
-abbrev pub unsubscribed : ChannelOf → Connection → Connection
-unsubscribed channel connection = acknowledged (without_channel channel connection) (Unsubscribed (Some channel) (length (without_channel channel connection))) connection
+abbrev pub connection_after_unsubscribe : ChannelOf → Connection → Connection
+connection_after_unsubscribe channel connection = with_acknowledgement (without_channel channel connection) (Unsubscribed (Some channel) (length (without_channel channel connection))) connection
 
 -- a connection after its first items were handed out
-abbrev pub drained : ℕ → Connection → Connection
-drained most connection = record { opener = connection.opener; channels = connection.channels; outbox = drop most connection.outbox; dropped = connection.dropped }
+abbrev pub connection_after_drain : ℕ → Connection → Connection
+connection_after_drain most connection = record { opener = connection.opener; channels = connection.channels; outbox = drop most connection.outbox; dropped = connection.dropped }
 
 -- the board with another connection at a number
 abbrev pub with_connection : Board → ℕ → Connection → Board

@@ -11,7 +11,7 @@ use Rattle.lr_objects.specs.declared.want.Mode.TheVariants as modes
 use Rattle.lr_objects.specs.declared.want.Want.{Want}
 use Rattle.lr_model.specs.declared.event.Event.{Event}
 use Rattle.lr_model.specs.declared.event.Event.TheVariants.{Begin, Ask, Exec, Take, Tick, Force}
-use Rattle.lr_model.specs.Moment.{last_moment}
+use Rattle.lr_limits.specs.Limits.{last_moment}
 
 -- how long a request may wait
 abbrev pub mode_word : Mode → List ℕ

@@ -5,7 +5,7 @@ use Rattle.lr_model.specs.declared.entry.Act.{Act}
 use Rattle.lr_model.specs.declared.entry.Act.TheVariants.{Call, Subscribe, Unsubscribe, Open, Close, Drain}
 use Rattle.lr_model.specs.declared.entry.Entry.{Entry}
 use Rattle.lr_model.specs.Answer.{Objects, no_objects, reply_of, objects_after, post_of}
-use Rattle.lr_model.specs.Board.{Board, Connection, is_open, has_room, closed, opened_by, posted, subscribed, unsubscribed, drained, with_connection, free_numbers}
+use Rattle.lr_model.specs.Board.{Board, Connection, is_open, has_room, closed_connection, new_connection, board_after_post, connection_after_subscribe, connection_after_unsubscribe, connection_after_drain, with_connection, free_numbers}
 
 -- what a server is: a moment, the objects and the board
 pub record State : Type 0 where
@@ -14,8 +14,8 @@ pub record State : Type 0 where
   pub board : Board
 
 -- a server that has just started, with the connections 0 to the last one open, by caller 0
-abbrev pub started : ℕ → State
-started last = record { moment = 0; objects = no_objects; board = λ conn. if nat_le conn last then opened_by 0 else closed }
+abbrev pub state_at_start : ℕ → State
+state_at_start last = record { moment = 0; objects = no_objects; board = λ conn. if nat_le conn last then new_connection 0 else closed_connection }
 
 -- the number that the next connection gets: the least free one
 abbrev pub next_number : Board → ℕ
@@ -32,12 +32,12 @@ objects_by state moment (Drain most) = state.objects
 
 -- the board after an act
 abbrev pub board_by : State → Entry → Act → Board
-board_by state entry (Call op) = posted (post_of state.objects entry.moment op) state.board
-board_by state entry (Subscribe channel) = with_connection state.board entry.conn (subscribed channel (state.board entry.conn))
-board_by state entry (Unsubscribe channel) = with_connection state.board entry.conn (unsubscribed channel (state.board entry.conn))
-board_by state entry Open = with_connection state.board entry.conn (opened_by entry.caller)
-board_by state entry Close = with_connection state.board entry.conn closed
-board_by state entry (Drain most) = with_connection state.board entry.conn (drained most (state.board entry.conn))
+board_by state entry (Call op) = board_after_post (post_of state.objects entry.moment op) state.board
+board_by state entry (Subscribe channel) = with_connection state.board entry.conn (connection_after_subscribe channel (state.board entry.conn))
+board_by state entry (Unsubscribe channel) = with_connection state.board entry.conn (connection_after_unsubscribe channel (state.board entry.conn))
+board_by state entry Open = with_connection state.board entry.conn (new_connection entry.caller)
+board_by state entry Close = with_connection state.board entry.conn closed_connection
+board_by state entry (Drain most) = with_connection state.board entry.conn (connection_after_drain most (state.board entry.conn))
 
 -- the state after an entry
 abbrev pub step : State → Entry → State

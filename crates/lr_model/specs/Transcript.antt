@@ -1,5 +1,6 @@
 -- The transcript of a schedule: what is written for its bytes.
 use Rattle.std.specs.Prelude.{◌≡◌, ◌≢◌, ℕ, ◌+◌, ◌≤◌, List, [], ◌∷◌, ◌++◌, codes, decimal, Option, Some, None}
+use Rattle.lr_limits.specs.Limits.{event_limit}
 use Rattle.lr_names.specs.Channel.{channel_text}
 use Rattle.lr_objects.specs.Reply.{reply_text}
 use Rattle.lr_model.specs.declared.event.Event.{Event}
@@ -42,10 +43,6 @@ bad_line number = codes "bad line " ++ decimal number ++ codes "\n"
 
 abbrev pub too_many_line : ℕ → List ℕ
 too_many_line number = codes "too many " ++ decimal number ++ codes "\n"
-
--- a schedule has at most so many events
-abbrev pub event_limit : ℕ
-event_limit = 1000000
 
 -- What a line is, by its number. A line that is the text of no event is bad, whatever its number. A line that is one
 -- too many, or the text of an event of a client or thread outside the limits, is too many.

@@ -30,7 +30,7 @@ use Rattle.lr_model.specs.Moment.{later}
 use Rattle.lr_model.specs.Table.{put}
 use Rattle.lr_model.specs.Answer.{reply_of, post_of}
 use Rattle.lr_model.specs.Board.{Board, reached_by}
-use Rattle.lr_model.specs.History.{State, started, after}
+use Rattle.lr_model.specs.History.{State, state_at_start, after}
 
 -- a server, its clients and a clock: the server's history, the moment, and the requests that threads have begun
 pub record World : Type 0 where
@@ -40,7 +40,7 @@ pub record World : Type 0 where
 
 -- the server of a world has the connections 0 to 128 open: two for each client
 abbrev pub first_state : State
-first_state = started 128
+first_state = state_at_start 128
 
 -- before the first event
 abbrev pub first_world : World

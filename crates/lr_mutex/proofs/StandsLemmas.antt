@@ -17,7 +17,8 @@ use Rattle.lr_objects.specs.declared.reply.Reply.{Reply}
 use Rattle.lr_objects.specs.declared.reply.Reply.TheVariants.{Granted, Kept, Renewed}
 use Rattle.lr_model.specs.declared.hold.Hold.{Hold}
 use Rattle.lr_model.specs.Answer.{Objects, no_objects, mutex_outcome, name_of, outcome_of, reply_of, objects_after, post_of, lock_post}
-use Rattle.lr_model.specs.Moment.{is_lease, last_moment}
+use Rattle.lr_limits.specs.Limits.{last_moment}
+use Rattle.lr_model.specs.Moment.{is_lease}
 use Rattle.lr_model.specs.Mutex.{Outcome, live_hold, held_so, try_lock, unlock, renew_lock}
 use Rattle.lr_mutex.specs.Stands.{IsHold, StandsFor, lock_entry}
 use Rattle.lr_mutex.specs.Step.{IsHeld, IsCall, is_freed}

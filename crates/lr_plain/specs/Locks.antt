@@ -5,7 +5,7 @@ use Rattle.std.specs.List.{find}
 use Rattle.std.specs.Str.{bytes_eq}
 use Rattle.lr_objects.specs.declared.op.Op.{Op}
 use Rattle.lr_model.specs.declared.hold.Hold.{Hold}
-use Rattle.lr_model.specs.Moment.{last_moment}
+use Rattle.lr_limits.specs.Limits.{last_moment}
 use Rattle.lr_model.specs.Mutex.{Outcome, live_hold}
 use Rattle.lr_model.specs.Answer.{name_of, mutex_outcome}
 

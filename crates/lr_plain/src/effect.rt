@@ -1,7 +1,8 @@
 // What each function answers, and what it does to its lock.
 ghost use Rattle.std.specs.Prelude.{◌≡◌, ◌+◌, ◌<◌, ◌≤◌, IsTrue};
 ghost use Rattle.std.specs.Option.{ForSome};
-ghost use Rattle.lr_model.specs.Moment.{last_moment, is_lease};
+ghost use Rattle.lr_limits.specs.Limits.{last_moment};
+ghost use Rattle.lr_model.specs.Moment.{is_lease};
 ghost use Rattle.lr_model.specs.Mutex.{live_hold, unchanged, held_so, freed, try_lock, unlock, renew_lock, force_lock};
 ghost use Rattle.lr_model.specs.Answer.{name_of, mutex_outcome};
 ghost use Rattle.lr_plain.specs.Locks.{IsHold};

@@ -1,5 +1,5 @@
 ghost use Rattle.std.specs.Prelude.{◌≡◌, ◌<◌, ◌≤◌, [], vec_len, vec_capacity};
-ghost use Rattle.lr_model.specs.Moment.{last_moment};
+ghost use Rattle.lr_limits.specs.Limits.{last_moment};
 ghost use Rattle.lr_plain.specs.Locks.{outcome_at, locks_after};
 ghost use Rattle.lr_plain.specs.Shown.{shown_of};
 

@@ -9,7 +9,8 @@ use Rattle.std.proofs.lemmas.List.Folds.{list_any-append}
 use Rattle.std.proofs.lemmas.Map.Views.{any-filter_same}
 use Rattle.lr_names.specs.Channel.{ChannelOf}
 use Rattle.lr_names.specs.declared.post.Push.TheVariants.{Subscribed}
-use Rattle.lr_model.specs.Board.{Board, Connection, acknowledged, subscribed, with_channel, closed, opened_by, dropped_now, has_channel, is_open, same_channel, with_connection, numbers_below, connection_limit}
+use Rattle.lr_limits.specs.Limits.{connection_limit}
+use Rattle.lr_model.specs.Board.{Board, Connection, with_acknowledgement, connection_after_subscribe, with_channel, closed_connection, new_connection, dropped_connection, has_channel, is_open, same_channel, with_connection, numbers_below}
 use Rattle.lr_model.proofs.Tables.{one_table}
 use Rattle.lr_pubsub.specs.Place.{Place}
 use Rattle.lr_pubsub.specs.Listed.{connections_of}
@@ -29,21 +30,21 @@ either_number a b P same other = by (a == b) refl
     by false e = other (eqb-false a b e)
 
 -- the connection at a number that is written
-connection_at-get_or : (places : List Place) (conn : ℕ) → connection_at places conn ≡ get_or (connections_of places) conn closed
-connection_at-get_or places conn = unwrap_or-slice_get (connections_of places) conn closed
+connection_at-get_or : (places : List Place) (conn : ℕ) → connection_at places conn ≡ get_or (connections_of places) conn closed_connection
+connection_at-get_or places conn = unwrap_or-slice_get (connections_of places) conn closed_connection
 
 pub connection_at-set : (places : List Place) (conn : ℕ) (place : Place) (other : ℕ) → conn < length places
     → connection_at (set places conn place) other ≡ (if conn == other then place.connection else connection_at places other)
 connection_at-set places conn place other within =
     connection_at-get_or (set places conn place) other
-    ∙ ap (λ cs. get_or cs other closed) (map-set (λ p. p.connection) places conn place)
-    ∙ either_number conn other (λ t. get_or (set (connections_of places) conn place.connection) other closed ≡ cond t place.connection (connection_at places other))
-    (λ e. ap (λ k. get_or (set (connections_of places) conn place.connection) k closed) (sym e) ∙ get_or-set_same (connections_of places) conn place.connection closed (omega (arith, length-map places (λ p. p.connection))))
-    (λ e. get_or-set_other (connections_of places) conn other place.connection closed (λ o. e (sym o)) ∙ sym (connection_at-get_or places other))
+    ∙ ap (λ cs. get_or cs other closed_connection) (map-set (λ p. p.connection) places conn place)
+    ∙ either_number conn other (λ t. get_or (set (connections_of places) conn place.connection) other closed_connection ≡ cond t place.connection (connection_at places other))
+    (λ e. ap (λ k. get_or (set (connections_of places) conn place.connection) k closed_connection) (sym e) ∙ get_or-set_same (connections_of places) conn place.connection closed_connection (omega (arith, length-map places (λ p. p.connection))))
+    (λ e. get_or-set_other (connections_of places) conn other place.connection closed_connection (λ o. e (sym o)) ∙ sym (connection_at-get_or places other))
 
 -- no connection is open behind the last place
-pub connection_at-past : (places : List Place) (conn : ℕ) → length places ≤ conn → connection_at places conn ≡ closed
-connection_at-past places conn past = connection_at-get_or places conn ∙ get_or_past (connections_of places) conn closed (omega (arith, length-map places (λ p. p.connection)))
+pub connection_at-past : (places : List Place) (conn : ℕ) → length places ≤ conn → connection_at places conn ≡ closed_connection
+connection_at-past places conn past = connection_at-get_or places conn ∙ get_or_past (connections_of places) conn closed_connection (omega (arith, length-map places (λ p. p.connection)))
 
 -- an open connection has a place
 pub is_open-within : (places : List Place) (conn : ℕ) → IsTrue (is_open (connection_at places conn)) → conn < length places
@@ -56,7 +57,7 @@ is_open-within places conn there = by (cases_lt conn (length places))
 pub connection_at-read : (places : List Place) (conn : ℕ) (place : Place) → conn < length places → place ≡ get_or places conn place → place.connection ≡ connection_at places conn
 connection_at-read places conn place within read =
     ap (λ p. p.connection) read
-    ∙ sym (get_or-map (λ p. p.connection) places conn place closed within)
+    ∙ sym (get_or-map (λ p. p.connection) places conn place closed_connection within)
     ∙ sym (connection_at-get_or places conn)
 
 -- the board after a change of one place
@@ -247,10 +248,10 @@ IsKept-like kept conn place below dropping_after capacity_after like =
     IsKept-same kept conn place below dropping_after capacity_after (λ channel. ap (has_channel channel) like) (λ channel. subst (λ c. IsTrue (has_channel channel c) → IsTrue (is_open c)) (sym like) (kept.sound conn channel))
 
 -- one connection more was dropped
-pub slow_more : (seen : List ℕ) (x : ℕ) (board : Board) → with_connection (without_slow seen board) x (dropped_now (without_slow seen board x)) ≡ without_slow (seen ++ x ∷ []) board
-slow_more seen x board = one_table _ _ (λ q. either_number x q (λ t. cond t (dropped_now (without_slow seen board x)) (without_slow seen board q) ≡ cond (is_listed seen q || (t || false)) (dropped_now (board q)) (board q)) (here q) (λ e. ap (λ b. cond b (dropped_now (board q)) (board q)) (sym (or_false (is_listed seen q)))) ∙ ap (λ b. cond b (dropped_now (board q)) (board q)) (sym (list_any-append (λ other. other == q) seen (x ∷ []))))
+pub slow_more : (seen : List ℕ) (x : ℕ) (board : Board) → with_connection (without_slow seen board) x (dropped_connection (without_slow seen board x)) ≡ without_slow (seen ++ x ∷ []) board
+slow_more seen x board = one_table _ _ (λ q. either_number x q (λ t. cond t (dropped_connection (without_slow seen board x)) (without_slow seen board q) ≡ cond (is_listed seen q || (t || false)) (dropped_connection (board q)) (board q)) (here q) (λ e. ap (λ b. cond b (dropped_connection (board q)) (board q)) (sym (or_false (is_listed seen q)))) ∙ ap (λ b. cond b (dropped_connection (board q)) (board q)) (sym (list_any-append (λ other. other == q) seen (x ∷ []))))
   where
-    twice : (s : Bool) (c : Connection) → dropped_now (cond s (dropped_now c) c) ≡ dropped_now c
+    twice : (s : Bool) (c : Connection) → dropped_connection (cond s (dropped_connection c) c) ≡ dropped_connection c
     twice true c = refl
     twice false c = refl
 
@@ -258,14 +259,14 @@ slow_more seen x board = one_table _ _ (λ q. either_number x q (λ t. cond t (d
     or_true true c d = refl
     or_true false c d = refl
 
-    here : (q : ℕ) → x ≡ q → dropped_now (without_slow seen board x) ≡ cond (is_listed seen q || true) (dropped_now (board q)) (board q)
-    here q e = twice (is_listed seen x) (board x) ∙ ap (λ n. dropped_now (board n)) e ∙ or_true (is_listed seen q) (dropped_now (board q)) (board q)
+    here : (q : ℕ) → x ≡ q → dropped_connection (without_slow seen board x) ≡ cond (is_listed seen q || true) (dropped_connection (board q)) (board q)
+    here q e = twice (is_listed seen x) (board x) ∙ ap (λ n. dropped_connection (board n)) e ∙ or_true (is_listed seen q) (dropped_connection (board q)) (board q)
 
 -- the others stay open
 pub is_open-without_slow : (numbers : List ℕ) (board : Board) (conn : ℕ) → IsTrue (is_open (board conn)) → IsTrue (is_open (without_slow numbers board conn))
 is_open-without_slow numbers board conn there = by (is_listed numbers conn)
   where
-    by : (t : Bool) → IsTrue (is_open (cond t (dropped_now (board conn)) (board conn)))
+    by : (t : Bool) → IsTrue (is_open (cond t (dropped_connection (board conn)) (board conn)))
     by true = there
     by false = there
 
@@ -275,11 +276,11 @@ OnErr-always (Err e) p = p
 
 -- a connection with one more channel
 abbrev pub joined : ChannelOf → Connection → Connection
-joined channel connection = acknowledged (connection.channels ++ channel ∷ []) (Subscribed channel (length (connection.channels ++ channel ∷ []))) connection
+joined channel connection = with_acknowledgement (connection.channels ++ channel ∷ []) (Subscribed channel (length (connection.channels ++ channel ∷ []))) connection
 
-pub joined-subscribed : (channel : ChannelOf) (connection : Connection) → has_channel channel connection ≡ false → joined channel connection ≡ subscribed channel connection
+pub joined-subscribed : (channel : ChannelOf) (connection : Connection) → has_channel channel connection ≡ false → joined channel connection ≡ connection_after_subscribe channel connection
 joined-subscribed channel connection absent =
-    ap (λ b. acknowledged (cond b connection.channels (connection.channels ++ channel ∷ [])) (Subscribed channel (length (cond b connection.channels (connection.channels ++ channel ∷ [])))) connection) (sym absent)
+    ap (λ b. with_acknowledgement (cond b connection.channels (connection.channels ++ channel ∷ [])) (Subscribed channel (length (cond b connection.channels (connection.channels ++ channel ∷ [])))) connection) (sym absent)
 
 pub with_channel-new : (channel : ChannelOf) (connection : Connection) → has_channel channel connection ≡ false → connection.channels ++ channel ∷ [] ≡ with_channel channel connection
 with_channel-new channel connection absent = ap (λ b. cond b connection.channels (connection.channels ++ channel ∷ [])) (sym absent)
@@ -324,11 +325,11 @@ IsKept-channels kept conn place below dropping_after capacity_after channels ope
 
 -- a connection whose channel is acknowledged again
 abbrev pub told_again : ChannelOf → Connection → Connection
-told_again channel connection = acknowledged connection.channels (Subscribed channel (length connection.channels)) connection
+told_again channel connection = with_acknowledgement connection.channels (Subscribed channel (length connection.channels)) connection
 
-pub told_again-subscribed : (channel : ChannelOf) (connection : Connection) → has_channel channel connection ≡ true → told_again channel connection ≡ subscribed channel connection
+pub told_again-subscribed : (channel : ChannelOf) (connection : Connection) → has_channel channel connection ≡ true → told_again channel connection ≡ connection_after_subscribe channel connection
 told_again-subscribed channel connection had =
-    ap (λ b. acknowledged (cond b connection.channels (connection.channels ++ channel ∷ [])) (Subscribed channel (length (cond b connection.channels (connection.channels ++ channel ∷ [])))) connection) (sym had)
+    ap (λ b. with_acknowledgement (cond b connection.channels (connection.channels ++ channel ∷ [])) (Subscribed channel (length (cond b connection.channels (connection.channels ++ channel ∷ [])))) connection) (sym had)
 
 pub with_channel-had : (channel : ChannelOf) (connection : Connection) → has_channel channel connection ≡ true → connection.channels ≡ with_channel channel connection
 with_channel-had channel connection had = ap (λ b. cond b connection.channels (connection.channels ++ channel ∷ [])) (sym had)
@@ -346,19 +347,19 @@ listed-has {places} kept channel conn = ap (λ ns. is_listed ns conn) (kept.list
 pub connection_at-push : (places : List Place) (place : Place) (conn : ℕ) → conn < length places → connection_at (places ++ place ∷ []) conn ≡ connection_at places conn
 connection_at-push places place conn within =
     connection_at-get_or (places ++ place ∷ []) conn
-    ∙ ap (λ cs. get_or cs conn closed) (map_push (λ p. p.connection) places place)
-    ∙ get_or_append_left (connections_of places) (place.connection ∷ []) closed conn (omega (arith, length-map places (λ p. p.connection)))
+    ∙ ap (λ cs. get_or cs conn closed_connection) (map_push (λ p. p.connection) places place)
+    ∙ get_or_append_left (connections_of places) (place.connection ∷ []) closed_connection conn (omega (arith, length-map places (λ p. p.connection)))
     ∙ sym (connection_at-get_or places conn)
 
 pub connection_at-last : (places : List Place) (place : Place) (conn : ℕ) → length places ≡ conn → connection_at (places ++ place ∷ []) conn ≡ place.connection
 connection_at-last places place conn many =
     connection_at-get_or (places ++ place ∷ []) conn
-    ∙ ap (λ cs. get_or cs conn closed) (map_push (λ p. p.connection) places place)
-    ∙ get_or_push (connections_of places) place.connection closed conn (length-map places (λ p. p.connection) ∙ many)
+    ∙ ap (λ cs. get_or cs conn closed_connection) (map_push (λ p. p.connection) places place)
+    ∙ get_or_push (connections_of places) place.connection closed_connection conn (length-map places (λ p. p.connection) ∙ many)
 
 -- the connection at a number when the server starts
 abbrev pub first_connection : ℕ → ℕ → Connection
-first_connection last conn = if nat_le conn last then opened_by 0 else closed
+first_connection last conn = if nat_le conn last then new_connection 0 else closed_connection
 
 pub started-more : (places : List Place) (place : Place) (conn last : ℕ) → length places ≡ conn → ((k : ℕ) → k < conn → connection_at places k ≡ first_connection last k)
     → place.connection ≡ first_connection last conn → (k : ℕ) → k < conn + 1 → connection_at (places ++ place ∷ []) k ≡ first_connection last k
@@ -376,7 +377,7 @@ started-shown places last many few shown k = by (cases_lt k connection_limit)
   where
     by : (k < connection_limit) ⊎ (connection_limit ≤ k) → connection_at places k ≡ first_connection last k
     by (inl below) = shown k below
-    by (inr past) = connection_at-past places k (omega arith) ∙ ap (λ b. cond b (opened_by 0) closed) (sym (lt-leb k last (omega arith)))
+    by (inr past) = connection_at-past places k (omega arith) ∙ ap (λ b. cond b (new_connection 0) closed_connection) (sym (lt-leb k last (omega arith)))
 
 below_none : (n : ℕ) (test : ℕ → Bool) → ((k : ℕ) → test k ≡ false) → numbers_below n test ≡ []
 unfolding numbers_below
@@ -394,7 +395,7 @@ IsKept-new places last many few shown table dropping capacity none = record {
   prepared = λ channel at. absurd (cc at);
 }
   where
-    by : (t : Bool) (channel : ChannelOf) → has_channel channel (cond t (opened_by 0) closed) ≡ false
+    by : (t : Bool) (channel : ChannelOf) → has_channel channel (cond t (new_connection 0) closed_connection) ≡ false
     by true channel = refl
     by false channel = refl
 

@@ -10,7 +10,8 @@ use Rattle.std.proofs.lemmas.Option.{same_Some}
 use Rattle.lr_names.specs.Channel.{ChannelOf}
 use Rattle.lr_names.specs.declared.post.Post.{Post}
 use Rattle.lr_names.specs.declared.post.Push.TheVariants.{Message}
-use Rattle.lr_model.specs.Board.{Board, Connection, connection_limit, dropped_by, dropped_now, has_channel, has_room, is_open, numbers_below, reached_by, told, with_item}
+use Rattle.lr_limits.specs.Limits.{connection_limit}
+use Rattle.lr_model.specs.Board.{Board, Connection, dropped_by, dropped_connection, has_channel, has_room, is_open, numbers_below, reached_by, connection_after_post, with_item}
 use Rattle.lr_model.proofs.Tables.{one_table}
 use Rattle.lr_pubsub.specs.Place.{Place}
 use Rattle.lr_pubsub.specs.Listed.{connections_of}
@@ -83,19 +84,19 @@ module _ {before : List Place} {table : List (ChannelOf × List ℕ)} {ready : O
 
   -- the message was sent, and those with full outboxes dropped
   pub posted-by : (now : List Place) (slow : List ℕ) → ((conn : ℕ) → connection_at now conn ≡ told_so post numbers (connection_at before) conn) → slow ≡ filter is_slow numbers
-      → without_slow slow (λ q. connection_at now q) ≡ (λ q. told post (connection_at before q))
+      → without_slow slow (λ q. connection_at now q) ≡ (λ q. connection_after_post post (connection_at before q))
   posted-by now slow tell drop = one_table _ _ (λ q.
-      ap (λ n. cond (is_listed slow q) (dropped_now n) n) (tell q)
-      ∙ ap (λ b. cond b (dropped_now (told_so post numbers (connection_at before) q)) (told_so post numbers (connection_at before) q)) (slows q)
-      ∙ ap (λ h. cond (is_slow q && h) (dropped_now (cond h (with_message post (connection_at before q)) (connection_at before q))) (cond h (with_message post (connection_at before q)) (connection_at before q))) (ap (λ ns. is_listed ns q) are ∙ listed-has kept post.channel q)
+      ap (λ n. cond (is_listed slow q) (dropped_connection n) n) (tell q)
+      ∙ ap (λ b. cond b (dropped_connection (told_so post numbers (connection_at before) q)) (told_so post numbers (connection_at before) q)) (slows q)
+      ∙ ap (λ h. cond (is_slow q && h) (dropped_connection (cond h (with_message post (connection_at before q)) (connection_at before q))) (cond h (with_message post (connection_at before q)) (connection_at before q))) (ap (λ ns. is_listed ns q) are ∙ listed-has kept post.channel q)
       ∙ by (has_channel post.channel (connection_at before q)) (has_room (connection_at before q)) (connection_at before q))
     where
       slows : (q : ℕ) → is_listed slow q ≡ (is_slow q && is_listed numbers q)
       slows q = ap (λ ns. is_listed ns q) drop ∙ any-filter_same (λ other. other == q) is_slow (is_slow q) (λ k e. ap is_slow (eqb-true k q e)) numbers
 
       by : (h r : Bool) (c : Connection)
-          → cond (not r && h) (dropped_now (cond h (cond r (with_item (Message post.channel post.wakes) c) c) c)) (cond h (cond r (with_item (Message post.channel post.wakes) c) c) c)
-          ≡ cond h (cond r (with_item (Message post.channel post.wakes) c) (dropped_now c)) c
+          → cond (not r && h) (dropped_connection (cond h (cond r (with_item (Message post.channel post.wakes) c) c) c)) (cond h (cond r (with_item (Message post.channel post.wakes) c) c) c)
+          ≡ cond h (cond r (with_item (Message post.channel post.wakes) c) (dropped_connection c)) c
       by true true c = refl
       by true false c = refl
       by false true c = refl

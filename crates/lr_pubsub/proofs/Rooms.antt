@@ -9,7 +9,7 @@ use Rattle.std.proofs.lemmas.List.Filters.{length-filter_more}
 use Rattle.std.proofs.lemmas.List.Folds.{list_any-append}
 use Rattle.std.proofs.lemmas.Option.{slice_get-get_or, slice_get-map}
 use Rattle.lr_names.specs.declared.post.Post.{Post}
-use Rattle.lr_model.specs.Board.{Connection, closed, has_room}
+use Rattle.lr_model.specs.Board.{Connection, closed_connection, has_room}
 use Rattle.lr_pubsub.specs.Place.{Place}
 use Rattle.lr_pubsub.specs.Listed.{connections_of}
 use Rattle.lr_pubsub.specs.Told.{is_listed, told_so, with_message}
@@ -63,7 +63,7 @@ slice_get-read places conn place within read = slice_get-get_or places conn plac
 
 -- lists of places that show the same connections
 pub connection_at-like : (before now : List Place) → connections_of now ≡ connections_of before → (conn : ℕ) → connection_at now conn ≡ connection_at before conn
-connection_at-like before now same conn = ap (λ cs. unwrap_or (slice_get cs conn) closed) same
+connection_at-like before now same conn = ap (λ cs. unwrap_or (slice_get cs conn) closed_connection) same
 
 module _ (places : List Place) (conn : ℕ) (old new : Place) (within : conn < length places) (read : old ≡ get_or places conn old) where
   -- the memory that a place has stays when it gets more
@@ -88,7 +88,7 @@ module _ (places : List Place) (conn : ℕ) (old new : Place) (within : conn < l
 -- places that are the same show the same connection
 pub connection_at-place : (before now : List Place) (conn : ℕ) → slice_get now conn ≡ slice_get before conn → connection_at now conn ≡ connection_at before conn
 connection_at-place before now conn same =
-    ap (λ o. unwrap_or o closed) (slice_get-map (λ p. p.connection) now conn ∙ ap (option_map (λ p. p.connection)) same ∙ sym (slice_get-map (λ p. p.connection) before conn))
+    ap (λ o. unwrap_or o closed_connection) (slice_get-map (λ p. p.connection) now conn ∙ ap (option_map (λ p. p.connection)) same ∙ sym (slice_get-map (λ p. p.connection) before conn))
 
 -- the places when a message was sent to the first of the listeners: those of the later ones are as they were
 pub record IsTold (post : Post) (listeners : List ℕ) (count : ℕ) (before now : List Place) : Type 0 where

@@ -2,14 +2,15 @@
 use Rattle.std.specs.Prelude.{◌≡◌, ℕ, ◌<◌, ◌≤◌, List, [], All, length, IsTrue, not, filter, Option, unwrap_or, slice_get}
 use Rattle.std.specs.Option.{ForSome}
 use Rattle.lr_names.specs.Channel.{ChannelOf}
-use Rattle.lr_model.specs.Board.{Connection, closed, has_channel, has_room, is_open, connection_limit, numbers_below}
+use Rattle.lr_limits.specs.Limits.{connection_limit}
+use Rattle.lr_model.specs.Board.{Connection, closed_connection, has_channel, has_room, is_open, numbers_below}
 use Rattle.lr_pubsub.specs.Place.{Place}
 use Rattle.lr_pubsub.specs.Listed.{connections_of}
 use Rattle.lr_pubsub.specs.Subscribers.{listeners}
 
 -- the connection at a number
 abbrev pub connection_at : List Place → ℕ → Connection
-connection_at places conn = unwrap_or (slice_get (connections_of places) conn) closed
+connection_at places conn = unwrap_or (slice_get (connections_of places) conn) closed_connection
 
 -- the memory for one item more is there, if the outbox at a number takes one
 abbrev pub HasMemory : List Place → ℕ → Type 0

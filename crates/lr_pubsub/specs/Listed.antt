@@ -4,7 +4,7 @@ use Rattle.std.specs.List.{list_any}
 use Rattle.lr_names.specs.Channel.{ChannelOf}
 use Rattle.lr_names.specs.declared.post.Push.{Push}
 use Rattle.lr_names.specs.declared.post.Push.TheVariants.{Subscribed, Unsubscribed, Message}
-use Rattle.lr_model.specs.Board.{Board, Connection, closed, has_room, same_channel}
+use Rattle.lr_model.specs.Board.{Board, Connection, closed_connection, has_room, same_channel}
 use Rattle.lr_pubsub.specs.Place.{Place}
 
 -- the connections in order of their numbers, and the channel on which the next message needs no memory
@@ -18,7 +18,7 @@ connections_of places = map (λ place. place.connection) places
 
 -- the board that a list of connections is
 abbrev pub board_of : Listed → Board
-board_of listed = λ conn. unwrap_or (slice_get listed.connections conn) closed
+board_of listed = λ conn. unwrap_or (slice_get listed.connections conn) closed_connection
 
 -- whether a connection takes no acknowledgement: it was dropped, or its outbox is full
 abbrev pub is_shut : Connection → Bool

@@ -3,7 +3,7 @@ use Rattle.std.specs.Prelude.{ℕ, List, ◌==◌, Bool, if◌then◌else◌}
 use Rattle.std.specs.List.{list_any}
 use Rattle.lr_names.specs.declared.post.Post.{Post}
 use Rattle.lr_names.specs.declared.post.Push.TheVariants.{Message}
-use Rattle.lr_model.specs.Board.{Board, Connection, dropped_now, has_room, with_item}
+use Rattle.lr_model.specs.Board.{Board, Connection, dropped_connection, has_room, with_item}
 
 -- whether a number is in a list
 abbrev pub is_listed : List ℕ → ℕ → Bool
@@ -20,4 +20,4 @@ told_so post numbers board = λ conn. if is_listed numbers conn then with_messag
 
 -- the board when these connections were dropped
 abbrev pub without_slow : List ℕ → Board → Board
-without_slow numbers board = λ conn. if is_listed numbers conn then dropped_now (board conn) else board conn
+without_slow numbers board = λ conn. if is_listed numbers conn then dropped_connection (board conn) else board conn

@@ -2,8 +2,8 @@ ghost use Rattle.std.specs.Prelude.{◌≡◌, ◌↔◌, ℕ, ◌<◌, ◌≤�
 ghost use Rattle.std.specs.List.{AllPairs, list_any};
 ghost use Rattle.std.specs.Option.{option_copied};
 ghost use Rattle.lr_names.specs.Channel.{ChannelOf};
-ghost use Rattle.lr_model.specs.Board.{closed, opened_by, posted, reached_by, dropped_by, drained, dropped_now, has_channel, has_room, is_open, same_channel, subscribed, unsubscribed, with_channel, without_channel, with_connection, free_numbers};
-ghost use Rattle.lr_model.specs.History.{started};
+ghost use Rattle.lr_model.specs.Board.{closed_connection, new_connection, board_after_post, reached_by, dropped_by, connection_after_drain, dropped_connection, has_channel, has_room, is_open, same_channel, connection_after_subscribe, connection_after_unsubscribe, with_channel, without_channel, with_connection, free_numbers};
+ghost use Rattle.lr_model.specs.History.{state_at_start};
 ghost use Rattle.lr_pubsub.specs.Kept.{HasMemory, IsReady, connection_at};
 ghost use Rattle.lr_pubsub.specs.Listed.{board_of, connections_of, is_shut, is_in_flight};
 ghost use Rattle.lr_pubsub.specs.Numbers.{without_number};
@@ -53,7 +53,7 @@ impl Board {
     /// A board with the connections 0 to `last` open, by caller 0.
     pub fn new(alloc: Global, last: u32) -> Result<Self, AllocError>
         requires { last < MOST_CONNECTIONS }
-        ensures { IfOk result (λ board. board_of board ≡ (started last).board) }
+        ensures { IfOk result (λ board. board_of board ≡ (state_at_start last).board) }
     {
         let mut slots = Vec::with_capacity(alloc, MOST_CONNECTIONS as usize)?;
         for conn in 0..MOST_CONNECTIONS {
@@ -72,7 +72,7 @@ impl Board {
     pub fn open(&mut self, conn: u32, caller: u64)
         requires number { conn < MOST_CONNECTIONS }
         requires free { is_open (board_of self.old conn) ≡ false }
-        ensures { board_of self.new ≡ with_connection (board_of self.old) conn (opened_by caller) }
+        ensures { board_of self.new ≡ with_connection (board_of self.old) conn (new_connection caller) }
     {
         self.ready = None;
         self.slots[conn as usize].open(caller);
@@ -81,7 +81,7 @@ impl Board {
     /// Closes an open connection. It takes no memory.
     pub fn close(&mut self, conn: u32)
         requires { IsTrue (is_open (board_of self.old conn)) }
-        ensures { board_of self.new ≡ with_connection (board_of self.old) conn closed }
+        ensures { board_of self.new ≡ with_connection (board_of self.old) conn closed_connection }
     {
         self.ready = None;
         leave_all(
@@ -97,7 +97,7 @@ impl Board {
     pub fn subscribe(&mut self, conn: u32, channel: &Channel) -> Result<u32, BoardFault>
         requires { IsTrue (is_open (board_of self.old conn)) }
         ensures ok { OnOk result (board_of self.new
-            ≡ with_connection (board_of self.old) conn (subscribed channel.now (board_of self.old conn))) }
+            ≡ with_connection (board_of self.old) conn (connection_after_subscribe channel.now (board_of self.old conn))) }
         ensures count { IfOk result (λ n. n ≡ length (with_channel channel.now (board_of self.old conn))) }
         ensures dropped { (result ≡ Err BoardFault.Dropped) ↔ IsTrue (is_shut (board_of self.old conn)) }
         ensures err { OnErr result (self.new.connections ≡ self.old.connections) }
@@ -113,7 +113,7 @@ impl Board {
     pub fn unsubscribe(&mut self, conn: u32, channel: &Channel) -> Result<u32, BoardFault>
         requires { IsTrue (is_open (board_of self.old conn)) }
         ensures ok { OnOk result (board_of self.new
-            ≡ with_connection (board_of self.old) conn (unsubscribed channel.now (board_of self.old conn))) }
+            ≡ with_connection (board_of self.old) conn (connection_after_unsubscribe channel.now (board_of self.old conn))) }
         ensures count { IfOk result (λ n. n ≡ length (without_channel channel.now (board_of self.old conn))) }
         ensures dropped { (result ≡ Err BoardFault.Dropped) ↔ IsTrue (is_shut (board_of self.old conn)) }
         ensures err { OnErr result (self.new.connections ≡ self.old.connections) }
@@ -140,7 +140,7 @@ impl Board {
     /// Sends a message to those that have its channel. One whose outbox is full is dropped: it loses its
     /// channels and what waited for it, and can only be closed. An error changes nothing.
     pub fn post(&mut self, post: &Post) -> Result<Posted, AllocError>
-        ensures ok { OnOk result (board_of self.new ≡ posted (Some post.now) (board_of self.old)) }
+        ensures ok { OnOk result (board_of self.new ≡ board_after_post (Some post.now) (board_of self.old)) }
         ensures reached { IfOk result (λ p. p.reached ≡ reached_by post.now (board_of self.old)) }
         ensures dropped { IfOk result (λ p. p.dropped ≡ dropped_by post.now (board_of self.old)) }
         ensures succeeds { self.old.ready ≡ Some post.now.channel → IsOk result }
@@ -157,7 +157,7 @@ impl Board {
     pub fn drain(&mut self, conn: u32, most: u32) -> Result<Pushes, BoardFault>
         requires { IsTrue (is_open (board_of self.old conn)) }
         ensures ok { OnOk result (board_of self.new
-            ≡ with_connection (board_of self.old) conn (drained most (board_of self.old conn))) }
+            ≡ with_connection (board_of self.old) conn (connection_after_drain most (board_of self.old conn))) }
         ensures items { IfOk result (λ items. items ≡ take most (board_of self.old conn).outbox) }
         ensures dropped { (result ≡ Err BoardFault.Dropped) ↔ IsTrue (board_of self.old conn).dropped }
         ensures err { OnErr result (self.new.connections ≡ self.old.connections) }
@@ -237,7 +237,7 @@ impl Board {
     fn join(&mut self, conn: u32, channel: &Channel) -> Result<u32, AllocError>
         requires { IsTrue (is_open (board_of self.old conn)) }
         ensures ok { OnOk result (board_of self.new
-            ≡ with_connection (board_of self.old) conn (subscribed channel.now (board_of self.old conn))) }
+            ≡ with_connection (board_of self.old) conn (connection_after_subscribe channel.now (board_of self.old conn))) }
         ensures count { IfOk result (λ n. n ≡ length (with_channel channel.now (board_of self.old conn))) }
         ensures err { OnErr result (self.new.connections ≡ self.old.connections) }
     {
@@ -253,7 +253,7 @@ impl Board {
         requires opened { IsTrue (is_open (board_of self.old conn)) }
         requires had { IsTrue (has_channel channel.now (board_of self.old conn)) }
         ensures ok { OnOk result (board_of self.new
-            ≡ with_connection (board_of self.old) conn (subscribed channel.now (board_of self.old conn))) }
+            ≡ with_connection (board_of self.old) conn (connection_after_subscribe channel.now (board_of self.old conn))) }
         ensures count { IfOk result (λ n. n ≡ length (with_channel channel.now (board_of self.old conn))) }
         ensures err { OnErr result (self.new.connections ≡ self.old.connections) }
     {
@@ -266,7 +266,7 @@ impl Board {
         requires opened { IsTrue (is_open (board_of self.old conn)) }
         requires absent { has_channel channel.now (board_of self.old conn) ≡ false }
         ensures ok { OnOk result (board_of self.new
-            ≡ with_connection (board_of self.old) conn (subscribed channel.now (board_of self.old conn))) }
+            ≡ with_connection (board_of self.old) conn (connection_after_subscribe channel.now (board_of self.old conn))) }
         ensures count { IfOk result (λ n. n ≡ length (with_channel channel.now (board_of self.old conn))) }
         ensures err { OnErr result (self.new.connections ≡ self.old.connections) }
     {
@@ -281,7 +281,7 @@ impl Board {
     fn leave(&mut self, conn: u32, channel: &Channel) -> Result<u32, AllocError>
         requires { IsTrue (is_open (board_of self.old conn)) }
         ensures ok { OnOk result (board_of self.new
-            ≡ with_connection (board_of self.old) conn (unsubscribed channel.now (board_of self.old conn))) }
+            ≡ with_connection (board_of self.old) conn (connection_after_unsubscribe channel.now (board_of self.old conn))) }
         ensures count { IfOk result (λ n. n ≡ length (without_channel channel.now (board_of self.old conn))) }
         ensures err { OnErr result (self.new.connections ≡ self.old.connections) }
     {
@@ -295,7 +295,7 @@ impl Board {
     fn take_first(&mut self, conn: u32, most: u32) -> Result<Pushes, AllocError>
         requires { IsTrue (is_open (board_of self.old conn)) }
         ensures ok { OnOk result (board_of self.new
-            ≡ with_connection (board_of self.old) conn (drained most (board_of self.old conn))) }
+            ≡ with_connection (board_of self.old) conn (connection_after_drain most (board_of self.old conn))) }
         ensures items { IfOk result (λ items. items ≡ take most (board_of self.old conn).outbox) }
         ensures err { OnErr result (self.new.connections ≡ self.old.connections) }
     {
@@ -316,7 +316,7 @@ impl Board {
     // Sends a message for which all memory was taken.
     fn deliver(&mut self, post: &Post) -> Posted
         requires { self.old.ready ≡ Some post.now.channel }
-        ensures board { board_of self.new ≡ posted (Some post.now) (board_of self.old) }
+        ensures board { board_of self.new ≡ board_after_post (Some post.now) (board_of self.old) }
         ensures reached { result.reached ≡ reached_by post.now (board_of self.old) }
         ensures dropped { result.dropped ≡ dropped_by post.now (board_of self.old) }
     {
@@ -345,7 +345,7 @@ impl Board {
     fn drop_out(&mut self, conn: u32)
         requires { IsTrue (is_open (board_of self.old conn)) }
         ensures { board_of self.new
-            ≡ with_connection (board_of self.old) conn (dropped_now (board_of self.old conn)) }
+            ≡ with_connection (board_of self.old) conn (dropped_connection (board_of self.old conn)) }
     {
         self.ready = None;
         leave_all(
@@ -359,7 +359,7 @@ impl Board {
 
 // The place of a connection when the board is new.
 fn first_slot(alloc: Global, conn: u32, last: u32) -> Slot
-    ensures { result.connection ≡ (if nat_le conn last then opened_by 0 else closed) }
+    ensures { result.connection ≡ (if nat_le conn last then new_connection 0 else closed_connection) }
 {
     let mut slot = Slot::closed(alloc);
     if conn <= last {

@@ -1,6 +1,6 @@
 ghost use Rattle.std.specs.Prelude.{◌≡◌, ◌<◌, ◌≤◌, [], ◌∷◌, ◌++◌, Some, IsTrue, false, not, length, filter, take, drop, IfOk, OnOk, OnErr};
 ghost use Rattle.lr_names.specs.declared.post.Push.TheVariants.{Subscribed, Unsubscribed, Message};
-ghost use Rattle.lr_model.specs.Board.{closed, opened_by, dropped_now, drained, has_room, is_open, same_channel, with_item, without_channel, acknowledged};
+ghost use Rattle.lr_model.specs.Board.{closed_connection, new_connection, dropped_connection, connection_after_drain, has_room, is_open, same_channel, with_item, without_channel, with_acknowledgement};
 ghost use Rattle.lr_pubsub.specs.Listed.{is_shut, is_in_flight, is_message_of};
 
 use crate::MOST_WAITING;
@@ -39,7 +39,7 @@ impl Model for Slot {
 impl Slot {
     /// A place at which no connection is open. It takes no memory.
     pub(crate) fn closed(alloc: Global) -> Self
-        ensures { result.connection ≡ closed }
+        ensures { result.connection ≡ closed_connection }
     {
         Slot {
             opener: None,
@@ -52,7 +52,7 @@ impl Slot {
     /// Opens a connection here.
     pub(crate) fn open(&mut self, caller: u64)
         requires { is_open self.old.connection ≡ false }
-        ensures { self.new.connection ≡ opened_by caller }
+        ensures { self.new.connection ≡ new_connection caller }
     {
         self.opener = Some(caller);
     }
@@ -61,7 +61,7 @@ impl Slot {
     /// is given back.
     pub(crate) fn drop_out(&mut self, alloc: Global)
         requires { IsTrue (is_open self.old.connection) }
-        ensures { self.new.connection ≡ dropped_now self.old.connection }
+        ensures { self.new.connection ≡ dropped_connection self.old.connection }
     {
         self.channels = Vec::new(alloc);
         self.outbox = VecDeque::new(alloc);
@@ -140,7 +140,7 @@ impl Slot {
     pub(crate) fn acknowledge(&mut self, channel: &Channel) -> Result<u32, AllocError>
         requires { IsTrue (is_open self.old.connection) }
         ensures ok { let channels = self.old.connection.channels in OnOk result (self.new.connection
-            ≡ acknowledged channels (Subscribed channel.now (length channels)) self.old.connection) }
+            ≡ with_acknowledgement channels (Subscribed channel.now (length channels)) self.old.connection) }
         ensures count { IfOk result (λ n. n ≡ length self.old.connection.channels) }
         ensures err { OnErr result (self.new.connection ≡ self.old.connection) }
     {
@@ -167,7 +167,7 @@ impl Slot {
         requires room { 0 < self.old.room }
         requires channel { 0 < self.old.channel_room }
         ensures joined { let channels = self.old.connection.channels ++ channel.now ∷ [] in
-            self.new.connection ≡ acknowledged channels (Subscribed channel.now (length channels)) self.old.connection }
+            self.new.connection ≡ with_acknowledgement channels (Subscribed channel.now (length channels)) self.old.connection }
         ensures count { result ≡ length (self.old.connection.channels ++ channel.now ∷ []) }
     {
         self.channels.push_reserved(*channel);
@@ -180,7 +180,7 @@ impl Slot {
     /// Takes a channel away, if the connection has it, and acknowledges that. An error changes nothing.
     pub(crate) fn leave(&mut self, channel: &Channel) -> Result<u32, AllocError>
         requires { IsTrue (is_open self.old.connection) }
-        ensures ok { OnOk result (self.new.connection ≡ acknowledged (without_channel channel.now self.old.connection)
+        ensures ok { OnOk result (self.new.connection ≡ with_acknowledgement (without_channel channel.now self.old.connection)
             (Unsubscribed (Some channel.now) (length (without_channel channel.now self.old.connection))) self.old.connection) }
         ensures count { IfOk result (λ n. n ≡ length (without_channel channel.now self.old.connection)) }
         ensures err { OnErr result (self.new.connection ≡ self.old.connection) }
@@ -198,7 +198,7 @@ impl Slot {
     /// Takes the first items, at most so many. An error changes nothing.
     pub(crate) fn drain(&mut self, alloc: Global, most: u32) -> Result<Pushes, AllocError>
         requires { IsTrue (is_open self.old.connection) }
-        ensures ok { OnOk result (self.new.connection ≡ drained most self.old.connection) }
+        ensures ok { OnOk result (self.new.connection ≡ connection_after_drain most self.old.connection) }
         ensures items { IfOk result (λ items. items ≡ take most self.old.connection.outbox) }
         ensures err { OnErr result (self.new.connection ≡ self.old.connection) }
     {

@@ -9,7 +9,7 @@ use Rattle.lr_model.specs.declared.schedule_line.ScheduleLine.{ScheduleLine}
 use Rattle.lr_model.specs.declared.schedule_line.ScheduleLine.TheVariants as lines
 use Rattle.lr_model.specs.EventText.{event_words, function_word, lease_word, IsEvent}
 use Rattle.lr_model.specs.Within.{IsClient, IsWithin}
-use Rattle.lr_model.specs.Transcript.{event_limit}
+use Rattle.lr_limits.specs.Limits.{event_limit}
 use Rattle.lr_schedule.specs.declared.spelled.Verb.{Verb}
 use Rattle.lr_schedule.specs.declared.spelled.Verb.TheVariants as verbs
 use Rattle.lr_schedule.specs.declared.spelled.Who.{Who}

@@ -3,7 +3,7 @@ ghost use Rattle.lr_names.specs.Name.{IsName};
 ghost use Rattle.lr_objects.specs.declared.function.Function.{Function};
 ghost use Rattle.lr_model.specs.declared.event.Event.{Event};
 ghost use Rattle.lr_model.specs.EventText.{event_text, function_word, begins, IsNumber, IsWant, IsEvent};
-ghost use Rattle.lr_model.specs.Moment.{last_moment};
+ghost use Rattle.lr_limits.specs.Limits.{last_moment};
 ghost use Rattle.lr_model.specs.Transcript.{IsLine};
 ghost use Rattle.lr_schedule.specs.declared.spelled.Spelled.{Spelled};
 ghost use Rattle.lr_schedule.specs.declared.spelled.Verb.{Verb};

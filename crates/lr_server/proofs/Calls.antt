@@ -15,7 +15,7 @@ use Rattle.lr_model.specs.declared.hold.Hold.{Hold}
 use Rattle.lr_model.specs.Moment.{is_lease}
 use Rattle.lr_model.specs.Mutex.{Outcome, live_hold, try_lock, renew_lock}
 use Rattle.lr_model.specs.Answer.{Objects, name_of, mutex_outcome, outcome_of, reply_of, objects_after, lock_channel, lock_post, post_of}
-use Rattle.lr_model.specs.Board.{Connection, closed, posted}
+use Rattle.lr_model.specs.Board.{Connection, closed_connection, board_after_post}
 use Rattle.lr_model.specs.History.{State}
 use Rattle.lr_mutex.specs.Stands.{StandsFor}
 use Rattle.lr_pubsub.specs.Listed.{Listed, board_of}
@@ -62,13 +62,13 @@ is_ready objects moment op post ready is prepared =
 
 -- the board is what its connections are
 pub same_board : (board board2 : Listed) → board2.connections ≡ board.connections → board_of board2 ≡ board_of board
-same_board board board2 same = ap (λ (cs : List Connection). λ conn. unwrap_or (slice_get cs conn) closed) same
+same_board board board2 same = ap (λ (cs : List Connection). λ conn. unwrap_or (slice_get cs conn) closed_connection) same
 
 module _ (keys keys2 : Keys) (board board1 board2 : Listed) (moment : ℕ) (op : Op) (reply : Reply) (post : Option Post) (answered : Answered) (in_time : keys.moment ≤ moment)
     (replies : (objects : Objects) → StandsFor keys objects → reply ≡ reply_of objects (max keys.moment moment) op)
     (posts : (objects : Objects) → StandsFor keys objects → post ≡ post_of objects (max keys.moment moment) op)
     (stands : (objects : Objects) → StandsFor keys objects → StandsFor keys2 (objects_after objects (max keys.moment moment) op))
-    (now : keys2.moment ≡ max keys.moment moment) (same : board1.connections ≡ board.connections) (sent : board_of board2 ≡ posted post (board_of board1))
+    (now : keys2.moment ≡ max keys.moment moment) (same : board1.connections ≡ board.connections) (sent : board_of board2 ≡ board_after_post post (board_of board1))
     (answer : answered.answer ≡ answers.Reply reply) (post_is : answered.post ≡ post) (reached : answered.reached ≡ reached_of post (board_of board1))
     (dropping : answered.dropped ≡ dropped_of post (board_of board1)) where
   same_moment : max keys.moment moment ≡ moment
@@ -86,7 +86,7 @@ module _ (keys keys2 : Keys) (board board1 board2 : Listed) (moment : ℕ) (op :
         dropping = dropping ∙ ap (λ (p : Option Post). dropped_of p (board_of board1)) sent_is ∙ ap (dropped_of (post_of state.objects moment op)) board_is;
         stands = subst (λ m. StandsFor keys2 (objects_after state.objects m op)) same_moment (stands state.objects held.stands);
         in_time = omega (arith, now, same_moment);
-        listed = λ caller. sent ∙ ap (λ (p : Option Post). posted p (board_of board1)) sent_is ∙ ap (posted (post_of state.objects moment op)) board_is;
+        listed = λ caller. sent ∙ ap (λ (p : Option Post). board_after_post p (board_of board1)) sent_is ∙ ap (board_after_post (post_of state.objects moment op)) board_is;
       }
 
 -- what a call does is what its act does

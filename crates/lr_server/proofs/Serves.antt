@@ -8,9 +8,10 @@ use Rattle.lr_model.specs.declared.entry.Act.{Act}
 use Rattle.lr_model.specs.declared.entry.Act.TheVariants.{Call, Subscribe, Unsubscribe, Open, Close, Drain}
 use Rattle.lr_model.specs.declared.entry.Entry.{Entry}
 use Rattle.lr_model.specs.Answer.{post_of}
-use Rattle.lr_model.specs.Board.{Board, Connection, connection_limit, closed, drained, opened_by, dropped_now, with_item, has_channel, has_room, is_open, numbers_below, free_numbers, posted, told, with_connection}
-use Rattle.lr_model.specs.History.{State, started, step, after, objects_by, board_by, CanDrain, IsAllowed, IsLegal, MayFollow}
-use Rattle.lr_model.specs.Moment.{last_moment, later}
+use Rattle.lr_model.specs.Board.{Board, Connection, closed_connection, connection_after_drain, new_connection, dropped_connection, with_item, has_channel, has_room, is_open, numbers_below, free_numbers, board_after_post, connection_after_post, with_connection}
+use Rattle.lr_model.specs.History.{State, state_at_start, step, after, objects_by, board_by, CanDrain, IsAllowed, IsLegal, MayFollow}
+use Rattle.lr_limits.specs.Limits.{connection_limit, last_moment}
+use Rattle.lr_model.specs.Moment.{later}
 use Rattle.lr_model.proofs.Histories.{after-push, IsLegal-push}
 use Rattle.lr_mutex.specs.Stands.{StandsFor}
 use Rattle.lr_mutex.proofs.StandsLemmas.{no_keys_stand}
@@ -21,15 +22,15 @@ use Rattle.lr_server.specs.Serving.{IsServing, IsHeld, IsDone}
 use Rattle.lr_server.proofs.Numbers.{below_most, below_fewer, least_below}
 
 -- a message leaves a connection open or closed
-told_open : (post : Post) (connection : Connection) → is_open (told post connection) ≡ is_open connection
+told_open : (post : Post) (connection : Connection) → is_open (connection_after_post post connection) ≡ is_open connection
 told_open post connection = by (has_channel post.channel connection) (has_room connection)
   where
-    by : (has room : Bool) → is_open (if has then (if room then with_item (Message post.channel post.wakes) connection else dropped_now connection) else connection) ≡ is_open connection
+    by : (has room : Bool) → is_open (if has then (if room then with_item (Message post.channel post.wakes) connection else dropped_connection connection) else connection) ≡ is_open connection
     by true true = refl
     by true false = refl
     by false room = refl
 
-posted_open : (post : Option Post) (board : Board) (c : ℕ) → is_open (posted post board c) ≡ is_open (board c)
+posted_open : (post : Option Post) (board : Board) (c : ℕ) → is_open (board_after_post post board c) ≡ is_open (board c)
 posted_open None board c = refl
 posted_open (Some post) board c = told_open post (board c)
 
@@ -73,7 +74,7 @@ least_is_free board conn free =
 
 -- a server that has just started
 pub serves_first : (last : ℕ) (entries : List Entry) (keys : Keys) (board : Listed) (spare : ℕ) → last < connection_limit → entries ≡ [] → entry_at keys ≡ (λ _. None) → keys.moment ≡ 0
-    → board_of board ≡ (started last).board → connection_limit ≤ spare → IsServing (record { last = last; entries = entries }) 0 keys board spare
+    → board_of board ≡ (state_at_start last).board → connection_limit ≤ spare → IsServing (record { last = last; entries = entries }) 0 keys board spare
 serves_first last entries keys board spare below none no_keys now listed room =
     subst (λ (es : List Entry). IsServing (record { last = last; entries = es }) 0 keys board spare) (sym none) (record {
       first = below;
@@ -83,8 +84,8 @@ serves_first last entries keys board spare below none no_keys now listed room =
       stands = no_keys_stand keys no_keys;
       in_time = omega arith;
       listed = listed;
-      numbered = λ c above. ap (λ b. is_open (if b then opened_by 0 else closed)) (lt-leb c last (omega arith));
-      closable = omega (arith, room, below_most connection_limit (λ c. is_open ((started last).board c)));
+      numbered = λ c above. ap (λ b. is_open (if b then new_connection 0 else closed_connection)) (lt-leb c last (omega arith));
+      closable = omega (arith, room, below_most connection_limit (λ c. is_open ((state_at_start last).board c)));
     })
 
 -- an entry is appended where the entries stayed
@@ -93,15 +94,15 @@ appended before after all entry pushed stayed = pushed ∙ ap (λ (es : List Ent
 
 module _ (last : ℕ) (entries : List Entry) (moment : ℕ) (keys : Keys) (board : Listed) (spare : ℕ) (serving : IsServing (record { last = last; entries = entries }) moment keys board spare) where
   abbrev state : State
-  state = after (started last) entries
+  state = after (state_at_start last) entries
 
   -- a close leaves one open connection fewer
   one_fewer : (conn : ℕ) → IsTrue (is_open (state.board conn))
-      → length (numbers_below connection_limit (λ c. is_open (with_connection state.board conn closed c))) + 1 ≡ length (numbers_below connection_limit (λ c. is_open (state.board c)))
+      → length (numbers_below connection_limit (λ c. is_open (with_connection state.board conn closed_connection c))) + 1 ≡ length (numbers_below connection_limit (λ c. is_open (state.board c)))
   one_fewer conn opened =
-      below_fewer connection_limit (λ c. is_open (state.board c)) (λ c. is_open (with_connection state.board conn closed c)) conn
-      (is_numbered state.board conn serving.numbered opened) opened (ap is_open (this_changed state.board conn closed))
-      (λ c apart. sym (ap is_open (others_kept state.board conn closed c apart)))
+      below_fewer connection_limit (λ c. is_open (state.board c)) (λ c. is_open (with_connection state.board conn closed_connection c)) conn
+      (is_numbered state.board conn serving.numbered opened) opened (ap is_open (this_changed state.board conn closed_connection))
+      (λ c apart. sym (ap is_open (others_kept state.board conn closed_connection c apart)))
 
   -- so where one is open there is room for its close
   pub room_to_close : (known : Known) → record { last = last; entries = entries } ≡ known → (conn : ℕ) → IsTrue (is_open (connection_of known conn)) → 0 < spare
@@ -119,11 +120,11 @@ module _ (last : ℕ) (entries : List Entry) (moment : ℕ) (keys : Keys) (board
         → length (numbers_below connection_limit (λ c. is_open (board_by state entry act c))) ≤ spare2
         → IsServing (record { last = last; entries = entries2 }) moment2 keys2 board2 spare2
     serves_on pushed now stands in_time listed numbered closable =
-        let state_is : after (started last) entries2 ≡ step state entry = ap (after (started last)) pushed ∙ after-push (started last) entries entry in
+        let state_is : after (state_at_start last) entries2 ≡ step state entry = ap (after (state_at_start last)) pushed ∙ after-push (state_at_start last) entries entry in
         let may : MayFollow state entry = record { in_time = late; allowed = allowed } in
         record {
           first = serving.first;
-          legal = subst (IsLegal (started last)) (sym pushed) (IsLegal-push (started last) entries entry serving.legal may);
+          legal = subst (IsLegal (state_at_start last)) (sym pushed) (IsLegal-push (state_at_start last) entries entry serving.legal may);
           now = now ∙ sym (ap (λ (s : State). s.moment) state_is);
           early = omega arith;
           stands = subst (λ (s : State). StandsFor keys2 s.objects) (sym state_is) stands;
@@ -160,38 +161,38 @@ module _ (last : ℕ) (entries : List Entry) (moment : ℕ) (keys : Keys) (board
 
     pub serves_drain : (most : ℕ) → CanDrain (connection_of known conn) most
         → entries2 ≡ entries ++ record { moment = at; caller = caller; conn = conn; act = Drain most } ∷ []
-        → board_of board2 ≡ with_connection (board_of board) conn (drained most (board_of board conn)) → connection_limit ≤ spare2
+        → board_of board2 ≡ with_connection (board_of board) conn (connection_after_drain most (board_of board conn)) → connection_limit ≤ spare2
         → IsServing (record { last = last; entries = entries2 }) moment2 keys board2 spare2
     serves_drain most allowed pushed changed room =
         with_room at caller conn (Drain most) is_late early (subst (λ (k : Known). CanDrain (connection_of k conn) most) (sym shown) allowed) entries2 moment2 keys board2 spare2 pushed now serving.stands keys_late
-        (changed ∙ ap (λ (b : Board). with_connection b conn (drained most (b conn))) serving.listed)
-        (λ c above. kept_open state.board conn (drained most (state.board conn)) c refl ∙ serving.numbered c above) room
+        (changed ∙ ap (λ (b : Board). with_connection b conn (connection_after_drain most (b conn))) serving.listed)
+        (λ c above. kept_open state.board conn (connection_after_drain most (state.board conn)) c refl ∙ serving.numbered c above) room
 
     pub serves_open : slice_get (free_numbers (board_of board)) 0 ≡ Some conn
         → entries2 ≡ entries ++ record { moment = at; caller = caller; conn = conn; act = Open } ∷ []
-        → board_of board2 ≡ with_connection (board_of board) conn (opened_by caller) → connection_limit ≤ spare2
+        → board_of board2 ≡ with_connection (board_of board) conn (new_connection caller) → connection_limit ≤ spare2
         → IsServing (record { last = last; entries = entries2 }) moment2 keys board2 spare2
     serves_open free pushed changed room =
         let least : slice_get (free_numbers state.board) 0 ≡ Some conn = subst (λ (b : Board). slice_get (free_numbers b) 0 ≡ Some conn) serving.listed free in
         let below : conn < connection_limit = (least_is_free state.board conn least).0 in
         with_room at caller conn Open is_late early (record { free = least }) entries2 moment2 keys board2 spare2 pushed now serving.stands keys_late
-        (changed ∙ ap (λ (b : Board). with_connection b conn (opened_by caller)) serving.listed)
-        (λ c above. ap is_open (others_kept state.board conn (opened_by caller) c (λ e. omega arith)) ∙ serving.numbered c above) room
+        (changed ∙ ap (λ (b : Board). with_connection b conn (new_connection caller)) serving.listed)
+        (λ c above. ap is_open (others_kept state.board conn (new_connection caller) c (λ e. omega arith)) ∙ serving.numbered c above) room
 
     pub serves_close : IsTrue (is_open (connection_of known conn))
         → entries2 ≡ entries ++ record { moment = at; caller = caller; conn = conn; act = Close } ∷ []
-        → board_of board2 ≡ with_connection (board_of board) conn closed → spare2 + 1 ≡ spare
+        → board_of board2 ≡ with_connection (board_of board) conn closed_connection → spare2 + 1 ≡ spare
         → IsServing (record { last = last; entries = entries2 }) moment2 keys board2 spare2
     serves_close opened pushed changed room =
         let was_open : IsTrue (is_open (state.board conn)) = subst (λ (k : Known). IsTrue (is_open (connection_of k conn))) (sym shown) opened in
         let fewer = one_fewer conn was_open in
         serves_on at caller conn Close is_late early was_open entries2 moment2 keys board2 spare2 pushed now serving.stands keys_late
-        (changed ∙ ap (λ (b : Board). with_connection b conn closed) serving.listed)
+        (changed ∙ ap (λ (b : Board). with_connection b conn closed_connection) serving.listed)
         (λ c above. closes c above) (omega (arith, fewer, serving.closable))
       where
-        closes : (c : ℕ) → connection_limit ≤ c → is_open (with_connection state.board conn closed c) ≡ false
+        closes : (c : ℕ) → connection_limit ≤ c → is_open (with_connection state.board conn closed_connection c) ≡ false
         closes c above = by (conn == c)
           where
-            by : (b : Bool) → is_open (if b then closed else state.board c) ≡ false
+            by : (b : Bool) → is_open (if b then closed_connection else state.board c) ≡ false
             by true = refl
             by false = serving.numbered c above

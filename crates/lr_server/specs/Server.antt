@@ -12,7 +12,7 @@ use Rattle.lr_model.specs.declared.entry.Entry.{Entry}
 use Rattle.lr_model.specs.Moment.{later}
 use Rattle.lr_model.specs.Answer.{reply_of, post_of}
 use Rattle.lr_model.specs.Board.{Board, Connection, reached_by, dropped_by, with_channel, without_channel}
-use Rattle.lr_model.specs.History.{State, started, after}
+use Rattle.lr_model.specs.History.{State, state_at_start, after}
 use Rattle.lr_history.specs.Limit.{is_refused}
 use Rattle.lr_pubsub.specs.Listed.{is_shut}
 use Rattle.lr_server.specs.declared.answered.Answer.{Answer}
@@ -27,7 +27,7 @@ pub record Known : Type 0 where
 
 -- what the server is now
 abbrev pub state_of : Known → State
-state_of known = after (started known.last) known.entries
+state_of known = after (state_at_start known.last) known.entries
 
 -- the connection with a number
 abbrev pub connection_of : Known → ℕ → Connection

@@ -1,10 +1,10 @@
 -- What a server keeps beside its history.
 use Rattle.std.specs.Prelude.{◌≡◌, ℕ, ◌<◌, ◌≤◌, length, false}
 use Rattle.lr_keys.specs.KeySpace.{Keys}
-use Rattle.lr_model.specs.Board.{is_open, connection_limit, numbers_below}
+use Rattle.lr_model.specs.Board.{is_open, numbers_below}
 use Rattle.lr_model.specs.declared.entry.Act.{Act}
-use Rattle.lr_model.specs.History.{State, started, objects_by, board_by, IsLegal}
-use Rattle.lr_model.specs.Moment.{last_moment}
+use Rattle.lr_model.specs.History.{State, state_at_start, objects_by, board_by, IsLegal}
+use Rattle.lr_limits.specs.Limits.{connection_limit, last_moment}
 use Rattle.lr_mutex.specs.Stands.{StandsFor}
 use Rattle.lr_pubsub.specs.Listed.{Listed, board_of}
 use Rattle.lr_server.specs.declared.answered.Answered.{Answered}
@@ -14,7 +14,7 @@ use Rattle.lr_server.specs.Server.{Known, state_of, answer_of, post_by, reached_
 -- leaves. Each open connection can be closed: there is room for the entry of its close.
 pub record IsServing (known : Known) (moment : ℕ) (keys : Keys) (board : Listed) (spare : ℕ) : Type 0 where
   pub first : known.last < connection_limit
-  pub legal : IsLegal (started known.last) known.entries
+  pub legal : IsLegal (state_at_start known.last) known.entries
   pub now : moment ≡ (state_of known).moment
   pub early : moment ≤ last_moment
   pub stands : StandsFor keys (state_of known).objects

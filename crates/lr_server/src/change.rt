@@ -3,9 +3,9 @@ ghost use Rattle.std.specs.Prelude.{◌≡◌, ◌≤◌, ◌+◌, ℕ, Bool, Op
 ghost use Rattle.lr_objects.specs.declared.op.Op.{Op};
 ghost use Rattle.lr_model.specs.declared.entry.Act.TheVariants as acts;
 ghost use Rattle.lr_model.specs.Answer.{Objects, name_of, lock_channel};
-ghost use Rattle.lr_model.specs.Board.{is_open, posted, reached_by, dropped_by, subscribed, unsubscribed, with_channel, without_channel, with_connection};
+ghost use Rattle.lr_model.specs.Board.{is_open, board_after_post, reached_by, dropped_by, connection_after_subscribe, connection_after_unsubscribe, with_channel, without_channel, with_connection};
 ghost use Rattle.lr_model.specs.History.{State};
-ghost use Rattle.lr_model.specs.Moment.{last_moment};
+ghost use Rattle.lr_limits.specs.Limits.{last_moment};
 ghost use Rattle.lr_mutex.specs.Stands.{StandsFor};
 ghost use Rattle.lr_pubsub.specs.Listed.{board_of};
 ghost use Rattle.lr_server.specs.Server.{act_of, is_asked, may_post, reached_of, dropped_of};
@@ -97,7 +97,7 @@ fn call(
 fn subscribe(board: &mut Board, conn: u32, channel: &Channel) -> Result<u32, AllocError>
     requires { IsTrue (is_open (board_of board.old conn)) }
     ensures ok { OnOk result (board_of board.new
-        ≡ with_connection (board_of board.old) conn (subscribed channel.now (board_of board.old conn))) }
+        ≡ with_connection (board_of board.old) conn (connection_after_subscribe channel.now (board_of board.old conn))) }
     ensures count { IfOk result (λ n. n ≡ length (with_channel channel.now (board_of board.old conn))) }
     ensures err { OnErr result (board.new.connections ≡ board.old.connections) }
 {
@@ -111,7 +111,7 @@ fn subscribe(board: &mut Board, conn: u32, channel: &Channel) -> Result<u32, All
 fn unsubscribe(board: &mut Board, conn: u32, channel: &Channel) -> Result<u32, AllocError>
     requires { IsTrue (is_open (board_of board.old conn)) }
     ensures ok { OnOk result (board_of board.new
-        ≡ with_connection (board_of board.old) conn (unsubscribed channel.now (board_of board.old conn))) }
+        ≡ with_connection (board_of board.old) conn (connection_after_unsubscribe channel.now (board_of board.old conn))) }
     ensures count { IfOk result (λ n. n ≡ length (without_channel channel.now (board_of board.old conn))) }
     ensures err { OnErr result (board.new.connections ≡ board.old.connections) }
 {
@@ -137,7 +137,7 @@ fn prepare_post(board: &mut Board, op: &Op) -> Result<(), AllocError>
 // Sends the message of a call, for which all memory was taken, if there is one.
 fn send(alloc: Global, board: &mut Board, reply: Reply, post: Option<Post>) -> Answered
     requires { IfSome post (λ p. board.old.ready ≡ Some p.channel) }
-    ensures board { board_of board.new ≡ posted post (board_of board.old) }
+    ensures board { board_of board.new ≡ board_after_post post (board_of board.old) }
     ensures answer { result.answer ≡ answers.Reply reply }
     ensures post { result.post ≡ post }
     ensures reached { result.reached ≡ reached_of post (board_of board.old) }
@@ -152,7 +152,7 @@ fn send(alloc: Global, board: &mut Board, reply: Reply, post: Option<Post>) -> A
 // Sends a message for which all memory was taken.
 fn publish(board: &mut Board, reply: Reply, message: &Post) -> Answered
     requires { board.old.ready ≡ Some message.now.channel }
-    ensures board { board_of board.new ≡ posted (Some message.now) (board_of board.old) }
+    ensures board { board_of board.new ≡ board_after_post (Some message.now) (board_of board.old) }
     ensures answer { result.answer ≡ answers.Reply reply }
     ensures post { result.post ≡ Some message.now }
     ensures reached { result.reached ≡ reached_by message.now (board_of board.old) }

@@ -2,9 +2,10 @@ ghost use Rattle.std.specs.Prelude.{◌≡◌, ◌≢◌, ◌↔◌, ◌<◌, �
 ghost use Rattle.lr_model.specs.declared.entry.Act.{Act};
 ghost use Rattle.lr_model.specs.declared.entry.Act.TheVariants as acts;
 ghost use Rattle.lr_model.specs.Board.{is_open, free_numbers};
-ghost use Rattle.lr_model.specs.History.{started, next_number, CanDrain, IsAllowed, IsLegal};
-ghost use Rattle.lr_history.specs.Limit.{is_refused, most_entries};
-ghost use Rattle.lr_model.specs.Moment.{last_moment, later};
+ghost use Rattle.lr_model.specs.History.{state_at_start, next_number, CanDrain, IsAllowed, IsLegal};
+ghost use Rattle.lr_history.specs.Limit.{is_refused};
+ghost use Rattle.lr_limits.specs.Limits.{entry_limit, last_moment};
+ghost use Rattle.lr_model.specs.Moment.{later};
 ghost use Rattle.lr_pubsub.specs.Listed.{is_in_flight};
 ghost use Rattle.lr_server.specs.Server.{state_of, connection_of, moment_at, known_after, known_at, drained_at, act_of, answer_of, post_by, answer_at, post_at, reached_of, dropped_of, fault_of, drain_fault, is_asked, is_only_subscribed, is_stopped, takes_some};
 
@@ -205,7 +206,7 @@ impl ServerState {
     /// What the server has done, in order.
     pub fn history(&self) -> &History
         ensures entries { result.now.entries ≡ self.now.entries }
-        ensures legal { IsLegal (started self.now.last) self.now.entries }
+        ensures legal { IsLegal (state_at_start self.now.last) self.now.entries }
     {
         &self.history
     }
@@ -233,7 +234,7 @@ impl ServerState {
 
     // Whether the history takes only closes.
     fn is_full(&self) -> bool
-        ensures { result ≡ nat_le most_entries (length self.now.entries) }
+        ensures { result ≡ nat_le entry_limit (length self.now.entries) }
     {
         self.history.len() >= MOST_ENTRIES
     }

@@ -7,15 +7,15 @@ use Rattle.lr_objects.specs.declared.reply.Reply.{Reply}
 use Rattle.lr_model.specs.declared.entry.Act.TheVariants.{Call}
 use Rattle.lr_model.specs.Answer.{reply_of, post_of}
 use Rattle.lr_model.specs.Board.{Board}
-use Rattle.lr_model.specs.History.{State, started, after, MayFollow}
-use Rattle.lr_model.specs.Moment.{later, last_moment}
+use Rattle.lr_model.specs.History.{State, state_at_start, after, MayFollow}
+use Rattle.lr_model.specs.Moment.{later}
 use Rattle.lr_model.specs.World.{first_state, call_entry, replied_at, reached_post}
 use Rattle.lr_server.specs.declared.fault.StepFault.{StepFault}
 use Rattle.lr_server.specs.declared.fault.StepFault.TheVariants as faults
 use Rattle.lr_server.specs.declared.answered.Answer.{Answer}
 use Rattle.lr_server.specs.declared.answered.Answer.TheVariants as answers
 use Rattle.lr_server.specs.Server.{Known, state_of, connection_of, known_after, answer_at, post_at, known_at, fault_of, reached_of, is_only_subscribed}
-use Rattle.lr_history.specs.Limit.{most_entries}
+use Rattle.lr_limits.specs.Limits.{entry_limit, last_moment}
 use Rattle.lr_world.specs.Shown.{shown_of}
 
 -- a message with the number of connections that it reaches
@@ -29,7 +29,7 @@ module _ (known : Known) (moment caller conn : ℕ) (op : Op) (first : known.las
   state = after first_state known.entries
 
   state_is : state_of known ≡ state
-  state_is = ap (λ last. after (started last) known.entries) first
+  state_is = ap (λ last. after (state_at_start last) known.entries) first
 
   -- the call runs at the moment that was given
   same_moment : later state.moment moment ≡ moment
@@ -66,8 +66,8 @@ module _ (known : Known) (moment caller conn : ℕ) (op : Op) (first : known.las
 
   pub faults_so : length known.entries < 2000000 → fault_of known conn (Call op) ≡ None
   faults_so room =
-      let not_full : nat_le most_entries (length known.entries) ≡ false = lt-leb most_entries (length known.entries) room in
-      ap (λ b. if b then None else if nat_le most_entries (length known.entries) then Some faults.HistoryFull else if (connection_of known conn).dropped then Some faults.Dropped else None) calls
+      let not_full : nat_le entry_limit (length known.entries) ≡ false = lt-leb entry_limit (length known.entries) room in
+      ap (λ b. if b then None else if nat_le entry_limit (length known.entries) then Some faults.HistoryFull else if (connection_of known conn).dropped then Some faults.Dropped else None) calls
       ∙ ap (λ b. if b then Some faults.HistoryFull else if (connection_of known conn).dropped then Some faults.Dropped else None) not_full
       ∙ ap (λ b. if b then Some faults.Dropped else None) kept
 

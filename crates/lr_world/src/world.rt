@@ -1,7 +1,7 @@
 ghost use Rattle.std.specs.Prelude.{◌≡◌, ◌<◌, ◌≤◌, ◌+◌, [], ◌++◌, length, IfOk, OnOk, OnErr};
 ghost use Rattle.lr_model.specs.Within.{IsWithin};
 ghost use Rattle.lr_model.specs.Sound.{IsSound};
-ghost use Rattle.lr_model.specs.Transcript.{event_limit};
+ghost use Rattle.lr_limits.specs.Limits.{event_limit};
 ghost use Rattle.lr_model.specs.World.{shown, next, signed, acts_of};
 ghost use Rattle.lr_machine.specs.Machine.{world_of};
 

@@ -1,6 +1,6 @@
 ghost use Rattle.std.specs.Prelude.{◌≡◌, ◌<◌, ◌≤◌, [], ◌∷◌, ◌++◌, length, IfOk, OnOk, OnErr};
 ghost use Rattle.lr_model.specs.History.{after, MayFollow};
-ghost use Rattle.lr_model.specs.Moment.{last_moment};
+ghost use Rattle.lr_limits.specs.Limits.{last_moment};
 ghost use Rattle.lr_model.specs.World.{first_state, call_entry, replied_at};
 ghost use Rattle.lr_objects.specs.declared.reply.Reply.{Reply};
 ghost use Rattle.lr_server.specs.Server.{with_entry};

@@ -1,5 +1,5 @@
 use Rattle.std.proofs.Common.{◌≡◌, ℕ, ◌+◌, ◌-◌, ◌≤◌, List, Some, false}
-use Rattle.lr_model.specs.Transcript.{event_limit}
+use Rattle.lr_limits.specs.Limits.{event_limit}
 use Rattle.lr_machine.specs.Machine.{world_of}
 use Rattle.lr_machine.specs.Progress.{IsAt}
 use Rattle.lr_machine.proofs.schedule.run.Given as goal

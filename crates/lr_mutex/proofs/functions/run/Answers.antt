@@ -1,5 +1,5 @@
 use Rattle.std.proofs.Common.{◌≤◌, max, ◌∙◌, arith}
-use Rattle.lr_model.specs.Moment.{last_moment}
+use Rattle.lr_limits.specs.Limits.{last_moment}
 use Rattle.lr_mutex.proofs.StandsLemmas.{held_before, post_stands, stands_after}
 use Rattle.lr_mutex.proofs.functions.run.Goals as goal
 

@@ -1,7 +1,7 @@
 use Rattle.std.proofs.Common.{◌<◌, ◌≤◌, not, IsTrue, ap, sym, subst, ◌∙◌, arith, length, vec_len, Some}
 use Rattle.std.specs.List.{AllPairs}
 use Rattle.std.proofs.lemmas.List.Elements.{All-filter, All-same, All-weaker}
-use Rattle.lr_model.specs.Board.{dropped_by, has_channel, has_room, is_open, posted, reached_by}
+use Rattle.lr_model.specs.Board.{dropped_by, has_channel, has_room, is_open, board_after_post, reached_by}
 use Rattle.lr_pubsub.specs.Kept.{connection_at}
 use Rattle.lr_pubsub.specs.Listed.{board_of}
 use Rattle.lr_pubsub.specs.Subscribers.{listeners}
@@ -41,7 +41,7 @@ pub returns-clause-board : goal.returns-clause-board
 returns-clause-board c =
     c.drop_all.ensures
     ∙ posted-by c.self.invariant c.args.post.now c.listeners-listeners.result.now c.listeners-listeners.ensures c.tell_all-reached.new.slots.items c.as_slice.result.now c.tell_all-reached.ensures.board (c.as_slice.ensures.value ∙ c.tell_all-reached.ensures.full)
-    ∙ ap (posted (Some c.args.post.now)) (ap board_of c.self.view_is)
+    ∙ ap (board_after_post (Some c.args.post.now)) (ap board_of c.self.view_is)
 
 pub returns-clause-reached : goal.returns-clause-reached
 returns-clause-reached c =

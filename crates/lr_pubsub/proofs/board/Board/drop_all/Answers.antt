@@ -1,6 +1,6 @@
 use Rattle.std.proofs.Common.{ap, sym, subst, ◌∙◌, IsTrue, take, get_or}
 use Rattle.std.proofs.lemmas.List.{take_more}
-use Rattle.lr_model.specs.Board.{Board, dropped_now, is_open, with_connection}
+use Rattle.lr_model.specs.Board.{Board, dropped_connection, is_open, with_connection}
 use Rattle.lr_pubsub.specs.Listed.{board_of}
 use Rattle.lr_pubsub.specs.Told.{without_slow}
 use Rattle.lr_pubsub.proofs.Boards.{is_open-without_slow, slow_more}
@@ -19,6 +19,6 @@ loop-conn-preserved c =
     let conns = c.args.conns.now in
     let x = get_or conns i 0 in
     c.drop_out.ensures
-    ∙ ap (λ (b : Board). with_connection b x (dropped_now (b x))) c.loop-conn.invariant
+    ∙ ap (λ (b : Board). with_connection b x (dropped_connection (b x))) c.loop-conn.invariant
     ∙ slow_more (take i conns) x (board_of c.args.self.now)
     ∙ ap (λ seen. without_slow seen (board_of c.args.self.now)) (sym (take_more conns i 0 c.loop-conn-test.true))

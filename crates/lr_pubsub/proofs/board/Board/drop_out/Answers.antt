@@ -1,5 +1,5 @@
 use Rattle.std.proofs.Common.{◌<◌, ap, ◌∙◌, IsTrue, length}
-use Rattle.lr_model.specs.Board.{Board, dropped_now, is_open}
+use Rattle.lr_model.specs.Board.{Board, dropped_connection, is_open}
 use Rattle.lr_pubsub.specs.Kept.{connection_at}
 use Rattle.lr_pubsub.specs.Listed.{board_of}
 use Rattle.lr_pubsub.proofs.Boards.{connection_at-read, board-set, is_open-place, is_open-within, is_open-below, IsKept-left}
@@ -23,4 +23,4 @@ returns c =
     let read = connection_at-read places c.args.conn c.index_mut.result.now (within c) c.index_mut.ensures.value in
     let shows = ap board_of c.self.view_is in
     board-set places c.args.conn c.drop_out.new.self _ _ (within c) shows
-    (c.drop_out.ensures ∙ ap dropped_now (read ∙ ap (λ (b : Board). b c.args.conn) shows))
+    (c.drop_out.ensures ∙ ap dropped_connection (read ∙ ap (λ (b : Board). b c.args.conn) shows))

@@ -1,5 +1,5 @@
 use Rattle.std.proofs.Common.{◌≡◌, ◌<◌, ap, sym, ◌∙◌, arith, false, length}
-use Rattle.lr_model.specs.Board.{opened_by, is_open, has_channel}
+use Rattle.lr_model.specs.Board.{new_connection, is_open, has_channel}
 use Rattle.lr_pubsub.specs.Kept.{connection_at}
 use Rattle.lr_pubsub.specs.Listed.{board_of}
 use Rattle.lr_pubsub.proofs.Boards.{board-set, has_channel-closed, IsKept-same}
@@ -16,4 +16,4 @@ invariant_of-self c =
 pub returns : goal.returns
 returns c =
     let within : c.args.conn < length c.self.inside.slots.items = omega (arith, c.requires.number, c.self.invariant.numbered) in
-    board-set c.self.inside.slots.items c.args.conn c.open.new.self (opened_by c.args.caller) _ within (ap board_of c.self.view_is) c.open.ensures
+    board-set c.self.inside.slots.items c.args.conn c.open.new.self (new_connection c.args.caller) _ within (ap board_of c.self.view_is) c.open.ensures

@@ -1,6 +1,6 @@
 use Rattle.std.proofs.Common.{ap, ◌∙◌, take}
 use Rattle.std.proofs.lemmas.Result.{IfOk-weaker, on_ok_weaker, on_err_weaker}
-use Rattle.lr_model.specs.Board.{Connection, drained}
+use Rattle.lr_model.specs.Board.{Connection, connection_after_drain}
 use Rattle.lr_pubsub.specs.Listed.{board_of}
 use Rattle.lr_pubsub.proofs.Boards.{by_result, connections_of-like, board-set, IsKept-channels, IsPlace-read}
 use Rattle.lr_pubsub.proofs.board.Board.take_first.Goals as goal
@@ -18,7 +18,7 @@ returns-clause-ok c =
     let shows = ap board_of c.self.view_is in
     let at = IsPlace-read c.self.invariant (board_of c.args.self.now) c.args.conn c.index_mut.result.now shows c.requires c.index_mut.ensures.value in
     on_ok_weaker c.drain.result
-    (λ made. board-set c.self.inside.slots.items c.args.conn c.drain.new.self _ _ at.within shows (made ∙ ap (drained c.args.most) at.stands))
+    (λ made. board-set c.self.inside.slots.items c.args.conn c.drain.new.self _ _ at.within shows (made ∙ ap (connection_after_drain c.args.most) at.stands))
     c.drain.ensures.ok
 
 pub returns-clause-items : goal.returns-clause-items

@@ -1,5 +1,5 @@
 use Rattle.std.proofs.Common.{arith, ◌≤◌}
-use Rattle.lr_model.specs.Board.{connection_limit}
+use Rattle.lr_limits.specs.Limits.{connection_limit}
 use Rattle.lr_server.proofs.Serves.{appended, serves_drain}
 use Rattle.lr_server.proofs.state.ServerState.take.Goals as goal
 

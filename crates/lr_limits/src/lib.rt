@@ -1,0 +1,53 @@
+//! The limits: how long, how many and how late things may be. Some are Redisson's and Redis's, most are
+//! this project's own.
+#![tactic(auto)]
+
+mod laws;
+
+pub use laws::limits_are_as_defined;
+
+/// The greatest length of a line of a schedule, in bytes, without its LF.
+pub const LINE_BYTES: usize = 512;
+
+/// The greatest length of the name of an object, in bytes.
+pub const NAME_BYTES: usize = 64;
+
+/// The greatest length of a key, a field or a member, in bytes.
+pub const BRIEF_BYTES: usize = 128;
+
+/// The greatest number of a thread of a client. Threads are numbered from 1.
+pub const MOST_THREADS: u32 = 256;
+
+/// The greatest number of a client in a schedule. Clients are numbered from 1.
+pub const MOST_CLIENTS: u32 = 64;
+
+/// How many events a schedule has at most.
+pub const MOST_EVENTS: u64 = 1_000_000;
+
+/// The last moment that a clock shows, in milliseconds: 2 to the 53rd, less 1.
+pub const LAST_MOMENT: u64 = 9_007_199_254_740_991;
+
+/// The deadline of what never expires, in milliseconds: the greatest signed number of 64 bits.
+pub const NEVER: u64 = 9_223_372_036_854_775_807;
+
+/// The longest lease, in milliseconds: a thousand days. The shortest is 1.
+pub const LONGEST_LEASE: u64 = 86_400_000_000;
+
+/// The lease of the watchdog, in milliseconds: what a lock taken without a lease gets, after the
+/// Redisson guide.
+pub const WATCHDOG_LEASE: u64 = 30_000;
+
+/// How many times an owner may hold an object at once.
+pub const MOST_HOLDS: u64 = 1_000_000;
+
+/// How many members a key has at most: fields of a hash, items of a list, members of a sorted set.
+pub const MOST_MEMBERS: usize = 65_536;
+
+/// How many items wait in the outbox of a connection at most.
+pub const MOST_WAITING: usize = 16_384;
+
+/// How many connections a server has at most. They are numbered from 0.
+pub const MOST_CONNECTIONS: u32 = 256;
+
+/// How many entries a history takes. Only closes of connections may stand behind them.
+pub const MOST_ENTRIES: u64 = 2_000_000;
