@@ -2,3 +2,4 @@ pub mod Name
 pub mod Owner
 pub mod Key
 pub mod Channel
+pub mod Post

@@ -1,2 +1,4 @@
+pub mod Function
+pub mod Op
 pub mod Reply
 pub mod Want

@@ -1,26 +1,56 @@
--- What a thread wants, and the call that it is.
-use Rattle.std.specs.Prelude.{ℕ, List, Bool}
-use Rattle.lr_names.specs.Owner.{ThreadOfClient}
+-- What a thread wants, the call that it is, and how a schedule writes it.
+use Rattle.std.specs.Prelude.{◌≡◌, ℕ, ◌<◌, ◌^◌, List, [], ◌∷◌, replicate, codes, decimal, Bool, true}
+use Rattle.lr_limits.specs.Limits.{watchdog_lease}
+use Rattle.lr_names.specs.Name.{IsName}
+use Rattle.lr_names.specs.Owner.{ThreadOfClient, id_text}
 use Rattle.lr_objects.specs.declared.function.Function.{Function}
 use Rattle.lr_objects.specs.declared.function.Function.TheVariants as functions
+use Rattle.lr_objects.specs.declared.function.Arguments.{Arguments}
+use Rattle.lr_objects.specs.declared.function.Arguments.TheVariants as arguments
 use Rattle.lr_objects.specs.declared.op.Op.{Op}
 use Rattle.lr_objects.specs.declared.op.Op.TheVariants as ops
 use Rattle.lr_objects.specs.declared.want.Lease.{Lease}
 use Rattle.lr_objects.specs.declared.want.Lease.TheVariants.{Watch, For}
+use Rattle.lr_objects.specs.declared.want.Mode.{Mode}
+use Rattle.lr_objects.specs.declared.want.Mode.TheVariants as modes
 use Rattle.lr_objects.specs.declared.want.Want.{Want}
+use Rattle.lr_objects.specs.Function.{function_word, arguments_of, begins}
 
--- a lease in milliseconds: that of the watchdog is Redisson's default, 30 seconds
+-- a lease in milliseconds: that of the watchdog is Redisson's default
 abbrev pub lease_of : Lease → ℕ
-lease_of Watch = 30000
+lease_of Watch = watchdog_lease
 lease_of (For millis) = millis
 
--- the call of a function on an object by an owner
-abbrev pub call_of : Function → List ℕ → ThreadOfClient → ℕ → Op
-call_of functions.LockTry name owner lease = ops.LockTry name owner lease
-call_of functions.LockUnlock name owner rest = ops.LockUnlock name owner rest
-call_of functions.LockRenew name owner lease = ops.LockRenew name owner lease
-call_of functions.LockForce name owner lease = ops.LockForce name
+-- the call of a function for a want, with the owner and the lease in their places
+abbrev pub call_of : Function → Want → ThreadOfClient → ℕ → Bool → Op
+call_of functions.LockTry want owner lease queue = ops.LockTry want.name owner lease
+call_of functions.LockUnlock want owner rest queue = ops.LockUnlock want.name owner rest
+call_of functions.LockRenew want owner lease queue = ops.LockRenew want.name owner lease
+call_of functions.LockForce want owner lease queue = ops.LockForce want.name
 
--- the call that a want is, with the owner and the lease in their places
+-- the call that a want is
 abbrev pub op_of : Want → ThreadOfClient → ℕ → Bool → Op
-op_of want owner lease queue = call_of want.function want.name owner lease
+op_of want owner lease queue = call_of want.function want owner lease queue
+
+-- how long a request may wait: not at all, for so many milliseconds, or for as long as it takes
+abbrev pub mode_word : Mode → List ℕ
+mode_word modes.Once = codes "once"
+mode_word (modes.For millis) = decimal millis
+mode_word modes.Long = codes "long"
+
+-- a lease is written as its number of milliseconds, or as the watchdog's
+abbrev pub lease_word : Lease → List ℕ
+lease_word Watch = codes "watch"
+lease_word (For millis) = decimal millis
+
+-- the words behind the name, by what the function is given
+abbrev pub argument_words : Arguments → Want → List (List ℕ)
+argument_words arguments.Lease want = lease_word want.lease ∷ []
+argument_words arguments.Number want = decimal want.number ∷ []
+argument_words arguments.Nothing want = []
+argument_words arguments.Id want = id_text want.id ∷ []
+argument_words arguments.IdAndLease want = id_text want.id ∷ lease_word want.lease ∷ []
+
+-- the words of a want: the function, the name, and what the function is given
+abbrev pub want_words : Want → List (List ℕ)
+want_words want = function_word want.function ∷ want.name ∷ argument_words (arguments_of want.function) want

@@ -10,3 +10,18 @@ pub enum Function {
     /// Take a lock away from whoever holds it.
     LockForce,
 }
+
+/// What a function is given beside the object and its owner.
+#[derive(Clone, Copy, Debug, PartialEq, Eq)]
+pub enum Arguments {
+    /// A lease, or the lease that a hold that stays gets.
+    Lease,
+    /// A number of permits or counts.
+    Number,
+    /// Nothing.
+    Nothing,
+    /// The id of a permit.
+    Id,
+    /// The id of a permit and a lease.
+    IdAndLease,
+}

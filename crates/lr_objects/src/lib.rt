@@ -6,7 +6,7 @@ mod op;
 mod reply;
 mod want;
 
-pub use function::Function;
+pub use function::{Arguments, Function};
 pub use op::Op;
 pub use reply::{Remaining, Reply};
-pub use want::{Lease, Mode, WATCHDOG_LEASE, Want};
+pub use want::{Lease, Mode, Want};

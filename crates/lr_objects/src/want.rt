@@ -3,12 +3,9 @@ ghost use Rattle.lr_objects.specs.Want.{op_of, lease_of};
 
 use crate::function::Function;
 use crate::op::Op;
+use lr_limits::WATCHDOG_LEASE;
 use lr_names::{Name, Owner};
 use uuid::Uuid;
-
-/// The lease of the watchdog, in milliseconds: what a lock taken without a lease gets, after the
-/// Redisson guide.
-pub const WATCHDOG_LEASE: u64 = 30_000;
 
 /// For how long a lock is taken.
 #[derive(Clone, Copy, Debug, PartialEq, Eq)]
