@@ -45,6 +45,10 @@ watchdog_lease = 30000
 abbrev pub hold_limit : ℕ
 hold_limit = 1000000
 
+-- permits or counts of an object, and how many are asked for at once
+abbrev pub amount_limit : ℕ
+amount_limit = 1000000000
+
 -- members of a key
 abbrev pub member_limit : ℕ
 member_limit = 65536

@@ -40,6 +40,9 @@ pub const WATCHDOG_LEASE: u64 = 30_000;
 /// How many times an owner may hold an object at once.
 pub const MOST_HOLDS: u64 = 1_000_000;
 
+/// The greatest number of permits or counts of an object, and of those asked for at once.
+pub const MOST_AMOUNT: u64 = 1_000_000_000;
+
 /// How many members a key has at most: fields of a hash, items of a list, members of a sorted set.
 pub const MOST_MEMBERS: usize = 65_536;
 

@@ -45,6 +45,10 @@ kind_number Semaphore = 4
 kind_number Permits = 5
 kind_number Countdown = 6
 
+-- whether two kinds are one
+abbrev pub same_kind : Kind → Kind → Bool
+same_kind a b = kind_number a == kind_number b
+
 -- whether two channels name the same owner, or none
 abbrev pub same_queue_owner : Option ThreadOfClient → Option ThreadOfClient → Bool
 same_queue_owner None None = true

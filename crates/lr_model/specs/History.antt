@@ -1,11 +1,12 @@
--- The state of the server after each entry of its history, and which histories are legal.
-use Rattle.std.specs.Prelude.{◌≡◌, ◌≢◌, ℕ, ◌≤◌, nat_le, List, [], ◌∷◌, IsTrue, false, Option, Some, None, if◌then◌else◌, unwrap_or, slice_get}
+-- The state of the server after each entry of its history, what each entry gave, and which histories are legal.
+use Rattle.std.specs.Prelude.{◌≡◌, ◌≢◌, ℕ, ◌≤◌, nat_le, List, [], ◌∷◌, length, take, IsTrue, false, Some, if◌then◌else◌, unwrap_or, slice_get}
+use Rattle.lr_names.specs.declared.post.Push.{Push}
 use Rattle.lr_objects.specs.declared.reply.Reply.{Reply}
 use Rattle.lr_model.specs.declared.entry.Act.{Act}
 use Rattle.lr_model.specs.declared.entry.Act.TheVariants.{Call, Subscribe, Unsubscribe, Open, Close, Drain}
 use Rattle.lr_model.specs.declared.entry.Entry.{Entry}
 use Rattle.lr_model.specs.Answer.{Objects, no_objects, reply_of, objects_after, post_of}
-use Rattle.lr_model.specs.Board.{Board, Connection, is_open, has_room, closed_connection, new_connection, board_after_post, connection_after_subscribe, connection_after_unsubscribe, connection_after_drain, with_connection, free_numbers}
+use Rattle.lr_model.specs.Board.{Board, Connection, is_open, has_room, closed_connection, new_connection, board_after_post, with_channel, without_channel, connection_after_subscribe, connection_after_unsubscribe, connection_after_drain, with_connection, free_numbers}
 
 -- what a server is: a moment, the objects and the board
 pub record State : Type 0 where
@@ -15,33 +16,59 @@ pub record State : Type 0 where
 
 -- a server that has just started, with the connections 0 to the last one open, by caller 0
 abbrev pub state_at_start : ℕ → State
-state_at_start last = record { moment = 0; objects = no_objects; board = λ conn. if nat_le conn last then new_connection 0 else closed_connection }
+state_at_start last =
+    record { moment = 0; objects = no_objects; board = λ conn. if nat_le conn last then new_connection 0 else closed_connection }
 
 -- the number that the next connection gets: the least free one
 abbrev pub next_number : Board → ℕ
 next_number board = unwrap_or (slice_get (free_numbers board) 0) 0
 
--- the objects after an act
+-- the objects after an act: only a call changes them
 abbrev pub objects_by : State → ℕ → Act → Objects
 objects_by state moment (Call op) = objects_after state.objects moment op
-objects_by state moment (Subscribe channel) = state.objects
-objects_by state moment (Unsubscribe channel) = state.objects
-objects_by state moment Open = state.objects
-objects_by state moment Close = state.objects
-objects_by state moment (Drain most) = state.objects
+objects_by state moment _ = state.objects
 
 -- the board after an act
 abbrev pub board_by : State → Entry → Act → Board
 board_by state entry (Call op) = board_after_post (post_of state.objects entry.moment op) state.board
-board_by state entry (Subscribe channel) = with_connection state.board entry.conn (connection_after_subscribe channel (state.board entry.conn))
-board_by state entry (Unsubscribe channel) = with_connection state.board entry.conn (connection_after_unsubscribe channel (state.board entry.conn))
+board_by state entry (Subscribe channel) =
+    with_connection state.board entry.conn (connection_after_subscribe channel (state.board entry.conn))
+board_by state entry (Unsubscribe channel) =
+    with_connection state.board entry.conn (connection_after_unsubscribe channel (state.board entry.conn))
 board_by state entry Open = with_connection state.board entry.conn (new_connection entry.caller)
 board_by state entry Close = with_connection state.board entry.conn closed_connection
-board_by state entry (Drain most) = with_connection state.board entry.conn (connection_after_drain most (state.board entry.conn))
+board_by state entry (Drain most) =
+    with_connection state.board entry.conn (connection_after_drain most (state.board entry.conn))
 
 -- the state after an entry
 abbrev pub step : State → Entry → State
-step state entry = record { moment = entry.moment; objects = objects_by state entry.moment entry.act; board = board_by state entry entry.act }
+step state entry = record {
+  moment = entry.moment;
+  objects = objects_by state entry.moment entry.act;
+  board = board_by state entry entry.act;
+}
+
+-- what an entry gives: a reply, the number of channels that the connection then has, the number of a new connection, the
+-- items that are handed out, or nothing but the close
+pub data EntryResult : Type 0 where
+  Replies : Reply → EntryResult
+  Counts : ℕ → EntryResult
+  Opens : ℕ → EntryResult
+  HandsOut : List Push → EntryResult
+  Closes : EntryResult
+
+-- what an act gives in a state
+abbrev pub result_by : State → Entry → Act → EntryResult
+result_by state entry (Call op) = Replies (reply_of state.objects entry.moment op)
+result_by state entry (Subscribe channel) = Counts (length (with_channel channel (state.board entry.conn)))
+result_by state entry (Unsubscribe channel) = Counts (length (without_channel channel (state.board entry.conn)))
+result_by state entry Open = Opens (next_number state.board)
+result_by state entry Close = Closes
+result_by state entry (Drain most) = HandsOut (take most (state.board entry.conn).outbox)
+
+-- what an entry gives in the state before it
+abbrev pub result_of : State → Entry → EntryResult
+result_of state entry = result_by state entry entry.act
 
 -- the state after these entries
 abbrev pub after : State → List Entry → State
@@ -89,12 +116,3 @@ pub record MayFollow (state : State) (entry : Entry) : Type 0 where
 abbrev pub IsLegal : State → List Entry → Type 0
 IsLegal state [] = Unit {0}
 IsLegal state (entry ∷ entries) = MayFollow state entry × IsLegal (step state entry) entries
-
--- the reply to the call of an entry
-abbrev pub reply_by : State → ℕ → Act → Option Reply
-reply_by state moment (Call op) = Some (reply_of state.objects moment op)
-reply_by state moment (Subscribe channel) = None
-reply_by state moment (Unsubscribe channel) = None
-reply_by state moment Open = None
-reply_by state moment Close = None
-reply_by state moment (Drain most) = None

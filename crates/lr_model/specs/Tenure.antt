@@ -1,72 +1,133 @@
--- Who holds a lock when, told from the replies alone. Nothing here looks at what the server keeps.
-use Rattle.std.specs.Prelude.{◌≡◌, ℕ, ◌+◌, ◌-◌, ◌≤◌, nat_lt, List, [], ◌∷◌, Bool, true, false, ◌&&◌, if◌then◌else◌}
+-- Who holds what when, told from the replies alone. Nothing here looks at what the server keeps.
+use Rattle.std.specs.Prelude.{◌≡◌, ℕ, ◌+◌, ◌-◌, ◌≤◌, nat_lt, List, [], ◌∷◌, Bool, true, false, not, ◌&&◌, ◌||◌, Option, Some, None, if◌then◌else◌}
 use Rattle.std.specs.Str.{bytes_eq}
 use Rattle.lr_names.specs.Owner.{ThreadOfClient, same_owner}
+use Rattle.lr_names.specs.declared.kind.Kind.{Kind}
+use Rattle.lr_names.specs.declared.kind.Kind.TheVariants.{Mutex}
 use Rattle.lr_objects.specs.declared.op.Op.{Op}
 use Rattle.lr_objects.specs.declared.op.Op.TheVariants.{LockTry, LockUnlock, LockRenew, LockForce}
 use Rattle.lr_objects.specs.declared.reply.Reply.{Reply}
 use Rattle.lr_objects.specs.declared.reply.Reply.TheVariants.{Granted, Kept, Freed, Renewed}
+use Rattle.lr_objects.specs.Op.{kind_of, name_of}
 use Rattle.lr_model.specs.declared.entry.Act.{Act}
 use Rattle.lr_model.specs.declared.entry.Act.TheVariants.{Call}
 use Rattle.lr_model.specs.declared.entry.Entry.{Entry}
 use Rattle.lr_model.specs.Moment.{is_live}
 use Rattle.lr_model.specs.Answer.{reply_of}
+use Rattle.lr_model.specs.Board.{same_kind}
 use Rattle.lr_model.specs.History.{State, step, after}
 
--- how often an owner has taken a lock without giving it back, and until when that counts
+-- alone, or beside others that hold in the same mode
+pub data HoldMode : Type 0 where
+  Exclusive : HoldMode
+  Shared : HoldMode
+
+-- whether a mode lets nobody hold beside it
+abbrev pub is_exclusive : HoldMode → Bool
+is_exclusive Exclusive = true
+is_exclusive Shared = false
+
+-- whether two modes are one
+abbrev pub same_mode : HoldMode → HoldMode → Bool
+same_mode Exclusive mode = is_exclusive mode
+same_mode Shared mode = not (is_exclusive mode)
+
+-- what an owner can hold: an object of a kind, by its name, in a mode
+pub record Claim : Type 0 where
+  pub kind : Kind
+  pub name : List ℕ
+  pub mode : HoldMode
+  pub owner : ThreadOfClient
+
+-- the claim that a call of its owner takes, gives back or renews, if it does
+abbrev pub claim_of : Op → Option Claim
+claim_of (LockTry name owner lease) = Some (record { kind = Mutex; name = name; mode = Exclusive; owner = owner })
+claim_of (LockUnlock name owner rest) = Some (record { kind = Mutex; name = name; mode = Exclusive; owner = owner })
+claim_of (LockRenew name owner lease) = Some (record { kind = Mutex; name = name; mode = Exclusive; owner = owner })
+claim_of (LockForce name) = None
+
+-- whether a call takes an object from whoever holds it
+abbrev pub ends_all_holds : Op → Bool
+ends_all_holds (LockForce name) = true
+ends_all_holds _ = false
+
+-- the lease that a call gives, or the rest lease
+abbrev pub lease_given : Op → ℕ
+lease_given (LockTry name owner lease) = lease
+lease_given (LockUnlock name owner rest) = rest
+lease_given (LockRenew name owner lease) = lease
+lease_given (LockForce name) = 0
+
+-- whether two claims are of one object
+abbrev pub same_object : Claim → Kind → List ℕ → Bool
+same_object claim kind name = same_kind claim.kind kind && bytes_eq claim.name name
+
+-- whether two claims are one
+abbrev pub same_claim : Claim → Claim → Bool
+same_claim a b = same_object a b.kind b.name && same_mode a.mode b.mode && same_owner a.owner b.owner
+
+-- whether a call's own claim is this one
+abbrev pub is_claim : Claim → Option Claim → Bool
+is_claim claim None = false
+is_claim claim (Some other) = same_claim claim other
+
+-- whether the reply to a call may change the tenure of a claim: it is of the owner's own call, or of one that takes the
+-- object from whoever holds it
+abbrev pub concerns : Op → Claim → Bool
+concerns op claim =
+    is_claim claim (claim_of op) || (ends_all_holds op && same_object claim (kind_of op) (name_of op))
+
+-- two claims that can't be held at once: another owner has the object, and one of them alone
+abbrev pub conflicts : Claim → Claim → Bool
+conflicts a b =
+    same_object a b.kind b.name && not (same_owner a.owner b.owner) && (is_exclusive a.mode || is_exclusive b.mode)
+
+-- how often an owner has taken an object without giving it back, and until when that counts
 pub record Tenure : Type 0 where
   pub count : ℕ
   pub deadline : ℕ
 
--- an owner that doesn't hold the lock
+-- an owner that doesn't hold the object
 abbrev pub no_tenure : Tenure
 no_tenure = record { count = 0; deadline = 0 }
 
--- whether the owner holds the lock at a moment
+-- whether the owner holds the object at a moment
 abbrev pub is_current : Tenure → ℕ → Bool
 is_current tenure moment = nat_lt 0 tenure.count && is_live tenure.deadline moment
 
--- A granted try counts one more where the tenure is current, and else begins anew.
-abbrev pub tenure_by_try : ℕ → ℕ → Reply → Tenure → Tenure
-tenure_by_try moment lease Granted tenure = record { count = if is_current tenure moment then tenure.count + 1 else 1; deadline = moment + lease }
-tenure_by_try moment lease _ tenure = tenure
+-- A granted try counts one more where the tenure is current, and else begins anew. One hold that is given back and stays
+-- takes one away. A renewal gives another deadline, and the last hold that is given back ends the tenure.
+abbrev pub tenure_by_reply : ℕ → ℕ → Reply → Tenure → Tenure
+tenure_by_reply moment lease Granted tenure =
+    record { count = if is_current tenure moment then tenure.count + 1 else 1; deadline = moment + lease }
+tenure_by_reply moment lease Kept tenure = record { count = tenure.count - 1; deadline = moment + lease }
+tenure_by_reply moment lease Renewed tenure = record { count = tenure.count; deadline = moment + lease }
+tenure_by_reply moment lease Freed tenure = no_tenure
+tenure_by_reply moment lease _ tenure = tenure
 
--- One hold is given back: the last one ends the tenure.
-abbrev pub tenure_by_unlock : ℕ → ℕ → Reply → Tenure → Tenure
-tenure_by_unlock moment rest Kept tenure = record { count = tenure.count - 1; deadline = moment + rest }
-tenure_by_unlock moment rest Freed tenure = no_tenure
-tenure_by_unlock moment rest _ tenure = tenure
+-- the tenure of a claim after a call was answered
+abbrev pub tenure_by_call : Claim → ℕ → Op → Reply → Tenure → Tenure
+tenure_by_call claim moment op reply tenure =
+    if concerns op claim then tenure_by_reply moment (lease_given op) reply tenure else tenure
 
-abbrev pub tenure_by_renew : ℕ → ℕ → Reply → Tenure → Tenure
-tenure_by_renew moment lease Renewed tenure = record { count = tenure.count; deadline = moment + lease }
-tenure_by_renew moment lease _ tenure = tenure
+-- the tenure of a claim after an act
+abbrev pub tenure_by_act : Claim → State → ℕ → Act → Tenure → Tenure
+tenure_by_act claim state moment (Call op) tenure =
+    tenure_by_call claim moment op (reply_of state.objects moment op) tenure
+tenure_by_act claim state moment _ tenure = tenure
 
-abbrev pub tenure_by_force : Reply → Tenure → Tenure
-tenure_by_force Freed tenure = no_tenure
-tenure_by_force _ tenure = tenure
+-- the tenure of a claim after these entries, from a state on
+abbrev pub tenure_after : Claim → State → List Entry → Tenure → Tenure
+tenure_after claim state [] tenure = tenure
+tenure_after claim state (entry ∷ entries) tenure =
+    tenure_after claim (step state entry) entries (tenure_by_act claim state entry.moment entry.act tenure)
 
--- the tenure of an owner on a lock after a call was answered
-abbrev pub tenure_by_call : List ℕ → ThreadOfClient → ℕ → Op → Reply → Tenure → Tenure
-tenure_by_call name owner moment (LockTry n o lease) reply tenure = if bytes_eq n name && same_owner o owner then tenure_by_try moment lease reply tenure else tenure
-tenure_by_call name owner moment (LockUnlock n o rest) reply tenure = if bytes_eq n name && same_owner o owner then tenure_by_unlock moment rest reply tenure else tenure
-tenure_by_call name owner moment (LockRenew n o lease) reply tenure = if bytes_eq n name && same_owner o owner then tenure_by_renew moment lease reply tenure else tenure
-tenure_by_call name owner moment (LockForce n) reply tenure = if bytes_eq n name then tenure_by_force reply tenure else tenure
+-- whether a claim is held at a moment after a history
+abbrev pub holds_at : State → List Entry → Claim → ℕ → Bool
+holds_at first entries claim moment = is_current (tenure_after claim first entries no_tenure) moment
 
-abbrev pub tenure_by_act : List ℕ → ThreadOfClient → State → ℕ → Act → Tenure → Tenure
-tenure_by_act name owner state moment (Call op) tenure = tenure_by_call name owner moment op (reply_of state.objects moment op) tenure
-tenure_by_act name owner state moment _ tenure = tenure
-
--- the tenure of an owner on a lock after these entries, from a state on
-abbrev pub tenure_after : List ℕ → ThreadOfClient → State → List Entry → Tenure → Tenure
-tenure_after name owner state [] tenure = tenure
-tenure_after name owner state (entry ∷ entries) tenure = tenure_after name owner (step state entry) entries (tenure_by_act name owner state entry.moment entry.act tenure)
-
--- whether an owner holds a lock at a moment after a history
-abbrev pub holds_at : State → List Entry → List ℕ → ThreadOfClient → ℕ → Bool
-holds_at first entries name owner moment = is_current (tenure_after name owner first entries no_tenure) moment
-
--- From the last entry's moment on, no two owners hold one lock at the same time.
+-- From the last entry's moment on, no two claims that conflict are held at the same time.
 abbrev pub NoConflict : State → List Entry → Type 0
 NoConflict first entries =
-    (name : List ℕ) (a b : ThreadOfClient) (moment : ℕ) → (after first entries).moment ≤ moment → same_owner a b ≡ false
-    → holds_at first entries name a moment ≡ true → holds_at first entries name b moment ≡ false
+    (a b : Claim) (moment : ℕ) → (after first entries).moment ≤ moment → conflicts a b ≡ true
+    → holds_at first entries a moment ≡ true → holds_at first entries b moment ≡ false

@@ -5,7 +5,7 @@ use Rattle.lr_names.specs.Channel.{channel_text}
 use Rattle.lr_objects.specs.Reply.{reply_text}
 use Rattle.lr_model.specs.declared.event.Event.{Event}
 use Rattle.lr_model.specs.declared.schedule_line.ScheduleLine.{ScheduleLine}
-use Rattle.lr_model.specs.declared.schedule_line.ScheduleLine.TheVariants as lines
+use Rattle.lr_model.specs.declared.schedule_line.ScheduleLine.TheVariants as kinds
 use Rattle.lr_model.specs.declared.shown.Found.{Found}
 use Rattle.lr_model.specs.declared.shown.Found.TheVariants as found
 use Rattle.lr_model.specs.declared.shown.Reached.{Reached}
@@ -47,23 +47,20 @@ too_many_line number = codes "too many " ++ decimal number ++ codes "\n"
 -- What a line is, by its number. A line that is the text of no event is bad, whatever its number. A line that is one
 -- too many, or the text of an event of a client or thread outside the limits, is too many.
 abbrev pub IsLine : ℕ → List ℕ → ScheduleLine → Type 0
-IsLine number line (lines.Event event) = (line ≡ event_text event) × IsEvent event × IsWithin event × (number ≤ event_limit)
-IsLine number line lines.Bad = (event : Event) → IsEvent event → line ≢ event_text event
-IsLine number line lines.TooMany = (event : Event) × (line ≡ event_text event) × IsEvent event × ¬ (IsWithin event × (number ≤ event_limit))
+IsLine number line (kinds.Event event) = (line ≡ event_text event) × IsEvent event × IsWithin event × (number ≤ event_limit)
+IsLine number line kinds.Bad = (event : Event) → IsEvent event → line ≢ event_text event
+IsLine number line kinds.TooMany = (event : Event) × (line ≡ event_text event) × IsEvent event × ¬ (IsWithin event × (number ≤ event_limit))
 
--- What is written from a line on, where the lines after it give rest: an event is shown, and the others end the run.
-abbrev pub Writes : World → ℕ → ScheduleLine → (World → List ℕ → Type 0) → List ℕ → Type 0
-Writes world number (lines.Event event) rest text = (more : List ℕ) × (text ≡ shown_line number (shown world event) ++ more) × rest (next world event) more
-Writes world number lines.Bad rest text = text ≡ bad_line number
-Writes world number lines.TooMany rest text = text ≡ too_many_line number
+-- these lines, from this number on, are the texts of these events
+abbrev pub AreLinesOf : ℕ → List (List ℕ) → List Event → Type 0
+AreLinesOf number [] [] = Unit {0}
+AreLinesOf number [] (event ∷ events) = ⊥
+AreLinesOf number (line ∷ lines) [] = ⊥
+AreLinesOf number (line ∷ lines) (event ∷ events) =
+    IsLine number line (kinds.Event event) × AreLinesOf (number + 1) lines events
 
--- What is written for these lines, the first of which has this number, from a world on.
-abbrev pub Transcript : World → ℕ → List (List ℕ) → List ℕ → Type 0
-Transcript world number [] text = text ≡ []
-Transcript world number (line ∷ rest) text =
-    (kind : ScheduleLine) × IsLine number line kind × Writes world number kind (λ after more. Transcript after (number + 1) rest more) text
-
--- all of these lines are events within the limits
-abbrev pub AreEvents : ℕ → List (List ℕ) → Type 0
-AreEvents number [] = Unit {0}
-AreEvents number (line ∷ rest) = ((event : Event) × IsLine number line (lines.Event event)) × AreEvents (number + 1) rest
+-- the transcript: what a world shows of these events, a line for each, from this number on
+abbrev pub transcript : World → ℕ → List Event → List ℕ
+transcript world number [] = []
+transcript world number (event ∷ events) =
+    shown_line number (shown world event) ++ transcript (next world event) (number + 1) events

@@ -1,5 +1,6 @@
--- The step table: what a schedule's event shows, and what it changes. Two functions by cases.
-use Rattle.std.specs.Prelude.{ℕ, ◌+◌, ◌-◌, ◌*◌, ◌==◌, List, [], ◌∷◌, ◌++◌, Bool, ◌&&◌, false, Option, Some, None, if◌then◌else◌}
+-- The step table: what a schedule's event shows, and what it changes. Two functions by cases, over rows that are functions
+-- of one client.
+use Rattle.std.specs.Prelude.{ℕ, ◌+◌, ◌-◌, ◌*◌, ◌==◌, List, [], ◌∷◌, ◌++◌, false, Option, Some, None, if◌then◌else◌}
 use Rattle.std.specs.Int.{w128, to_be_bytes}
 use Rattle.std.specs.Option.{option_map}
 use Rattle.lr_names.specs.Owner.{ThreadOfClient}
@@ -24,7 +25,6 @@ use Rattle.lr_model.specs.declared.shown.Shown.TheVariants as shows
 use Rattle.lr_model.specs.declared.waiter.Asking.{Asking}
 use Rattle.lr_model.specs.declared.waiter.Stage.{Stage}
 use Rattle.lr_model.specs.declared.waiter.Stage.TheVariants.{Fresh, Asked, Answered}
-use Rattle.lr_model.specs.declared.waiter.ThreadId.{ThreadId}
 use Rattle.lr_model.specs.declared.waiter.Waiter.{Waiter}
 use Rattle.lr_model.specs.Moment.{later}
 use Rattle.lr_model.specs.Table.{put}
@@ -32,41 +32,49 @@ use Rattle.lr_model.specs.Answer.{reply_of, post_of}
 use Rattle.lr_model.specs.Board.{Board, reached_by}
 use Rattle.lr_model.specs.History.{State, state_at_start, after}
 
--- a server, its clients and a clock: the server's history, the moment, and the requests that threads have begun
+-- a client: the requests of its threads
+pub record Client : Type 0 where
+  pub waiters : ℕ → Option Waiter
+
+-- a server, its clients by their numbers, and a clock
 pub record World : Type 0 where
   pub entries : List Entry
   pub moment : ℕ
-  pub waiters : ThreadId → Option Waiter
+  pub clients : ℕ → Client
 
--- the server of a world has the connections 0 to 128 open: two for each client
+-- a client before its first request
+abbrev pub first_client : Client
+first_client = record { waiters = λ thread. None }
+
+-- the server of a world has the connections 0 to 128 open: two for each client, and the operator's
 abbrev pub first_state : State
 first_state = state_at_start 128
 
 -- before the first event
 abbrev pub first_world : World
-first_world = record { entries = []; moment = 0; waiters = λ id. None }
+first_world = record { entries = []; moment = 0; clients = λ client. first_client }
 
 -- what the server is now
 abbrev pub state_of : World → State
 state_of world = after first_state world.entries
 
-abbrev pub same_thread : ThreadId → ThreadId → Bool
-same_thread a b = (a.client == b.client) && (a.thread == b.thread)
-
 -- a client's thread as an owner: the client's id is the one whose 128-bit number is the client's
-abbrev pub owner_of : ThreadId → ThreadOfClient
-owner_of id = record { client = to_be_bytes w128 id.client; thread = id.thread }
+abbrev pub owner_of : ℕ → ℕ → ThreadOfClient
+owner_of client thread = record { client = to_be_bytes w128 client; thread = thread }
 
--- a thread by its numbers
-abbrev pub thread_of : ℕ → ℕ → ThreadId
-thread_of client thread = record { client = client; thread = thread }
+-- the number under which a thread calls, and the connection on which its client sends calls
+abbrev pub caller_of : ℕ → ℕ → ℕ
+caller_of client thread = 1000 * client + thread
 
--- the caller number of a thread, and the connection on which its client sends calls
-abbrev pub caller_of : ThreadId → ℕ
-caller_of id = 1000 * id.client + id.thread
+abbrev pub command_connection : ℕ → ℕ
+command_connection client = 2 * client - 1
 
-abbrev pub command_connection : ThreadId → ℕ
-command_connection id = 2 * id.client - 1
+-- the number under which an operator calls, and its connection
+abbrev pub operator : ℕ
+operator = 0
+
+abbrev pub operator_connection : ℕ
+operator_connection = 0
 
 -- the entry that a call makes
 abbrev pub call_entry : ℕ → ℕ → ℕ → Op → Entry
@@ -78,11 +86,14 @@ reached_post board post = option_map (λ p. record { channel = p.channel; connec
 
 -- what is shown of a call that the server runs at a moment
 abbrev pub replied_at : State → ℕ → Op → Replied
-replied_at state moment op = record { reply = reply_of state.objects moment op; post = reached_post state.board (post_of state.objects moment op) }
+replied_at state moment op = record {
+  reply = reply_of state.objects moment op;
+  post = reached_post state.board (post_of state.objects moment op);
+}
 
 -- the phase of a request
 abbrev pub phase_at : Stage → Found
-phase_at Fresh = found.Fresh
+phase_at (Fresh turn) = found.Fresh
 phase_at (Asked asking) = found.Asked
 phase_at (Answered asking reply) = found.Answered
 
@@ -91,37 +102,57 @@ abbrev pub phase_of : Option Waiter → Found
 phase_of None = found.Idle
 phase_of (Some waiter) = phase_at waiter.stage
 
--- a request that has begun
-abbrev pub begun : Mode → Want → Waiter
-begun mode want = record { mode = mode; want = want; stage = Fresh }
+-- a request that begins. Its turn counts the tickets of a client, and nothing takes a ticket as long as no request waits.
+abbrev pub new_waiter : Mode → Want → Waiter
+new_waiter mode want = record { mode = mode; want = want; stage = Fresh 0; registered = false }
 
 -- a request at another stage
-abbrev pub at_stage : Waiter → Stage → Waiter
-at_stage waiter stage = record { mode = waiter.mode; want = waiter.want; stage = stage }
+abbrev pub with_stage : Waiter → Stage → Waiter
+with_stage waiter stage =
+    record { mode = waiter.mode; want = waiter.want; stage = stage; registered = waiter.registered }
 
--- The rows of the table: the request after an event, where the event applies to the thread.
+-- a client with another request of a thread
+abbrev pub with_waiter : Client → ℕ → Option Waiter → Client
+with_waiter client thread waiter = record client { waiters = put ◌==◌ client.waiters thread waiter }
+
+-- The rows of the table: the client after an event, where the event applies to the thread.
 
 -- a thread without a request begins one
-abbrev pub begin_row : Mode → Want → Option Waiter → Option Waiter
-begin_row mode want None = Some (begun mode want)
-begin_row mode want (Some waiter) = None
+abbrev pub begin_at : Client → ℕ → Mode → Want → Option Waiter → Option Client
+begin_at client thread mode want None = Some (with_waiter client thread (Some (new_waiter mode want)))
+begin_at client thread mode want (Some waiter) = None
+
+abbrev pub begin_row : ℕ → Mode → Want → Client → Option Client
+begin_row thread mode want client = begin_at client thread mode want (client.waiters thread)
 
 -- a request that has begun sends its call, with its lease
-abbrev pub asking_for : ThreadId → ℕ → Waiter → Asking
-asking_for id moment waiter = record { op = op_of waiter.want (owner_of id) (lease_of waiter.want.lease) false; at = moment }
+abbrev pub asking_for : ThreadOfClient → ℕ → Waiter → Asking
+asking_for owner moment waiter = record {
+  op = op_of waiter.want owner (lease_of waiter.want.lease) false;
+  at = moment;
+  seen = 0;
+  watched = false;
+}
 
-abbrev pub ask_at : ThreadId → ℕ → Waiter → Stage → Option Waiter
-ask_at id moment waiter Fresh = Some (at_stage waiter (Asked (asking_for id moment waiter)))
-ask_at id moment waiter (Asked asking) = None
-ask_at id moment waiter (Answered asking reply) = None
+abbrev pub waiter_after_ask : ThreadOfClient → ℕ → Waiter → Stage → Option Waiter
+waiter_after_ask owner moment waiter (Fresh turn) = Some (with_stage waiter (Asked (asking_for owner moment waiter)))
+waiter_after_ask owner moment waiter (Asked asking) = None
+waiter_after_ask owner moment waiter (Answered asking reply) = None
 
-abbrev pub ask_row : ThreadId → ℕ → Option Waiter → Option Waiter
-ask_row id moment None = None
-ask_row id moment (Some waiter) = ask_at id moment waiter waiter.stage
+abbrev pub ask_at : ThreadOfClient → ℕ → Option Waiter → Option Waiter
+ask_at owner moment None = None
+ask_at owner moment (Some waiter) = waiter_after_ask owner moment waiter waiter.stage
+
+abbrev pub row_of : Client → ℕ → Option Waiter → Option Client
+row_of client thread None = None
+row_of client thread (Some waiter) = Some (with_waiter client thread (Some waiter))
+
+abbrev pub ask_row : ThreadOfClient → ℕ → Client → Option Client
+ask_row owner moment client = row_of client owner.thread (ask_at owner moment (client.waiters owner.thread))
 
 -- the call that a thread has sent and the server hasn't run
 abbrev pub asked_at : Stage → Option Asking
-asked_at Fresh = None
+asked_at (Fresh turn) = None
 asked_at (Asked asking) = Some asking
 asked_at (Answered asking reply) = None
 
@@ -129,9 +160,18 @@ abbrev pub asked_of : Option Waiter → Option Asking
 asked_of None = None
 asked_of (Some waiter) = asked_at waiter.stage
 
+-- a request whose call was answered
+abbrev pub answered_at : Asking → Reply → Option Waiter → Option Waiter
+answered_at asking reply None = None
+answered_at asking reply (Some waiter) = Some (with_stage waiter (Answered asking reply))
+
+abbrev pub client_after_exec : ℕ → Asking → Reply → Client → Client
+client_after_exec thread asking reply client =
+    with_waiter client thread (answered_at asking reply (client.waiters thread))
+
 -- the reply that waits for a thread
 abbrev pub reply_at : Stage → Option Reply
-reply_at Fresh = None
+reply_at (Fresh turn) = None
 reply_at (Asked asking) = None
 reply_at (Answered asking reply) = Some reply
 
@@ -139,95 +179,113 @@ abbrev pub waiting_reply : Option Waiter → Option Reply
 waiting_reply None = None
 waiting_reply (Some waiter) = reply_at waiter.stage
 
--- a request whose call was answered
-abbrev pub answered_row : Asking → Reply → Option Waiter → Option Waiter
-answered_row asking reply None = None
-answered_row asking reply (Some waiter) = Some (at_stage waiter (Answered asking reply))
+-- a request whose reply is taken ends
+abbrev pub take_at : Client → ℕ → Option Reply → Option Client
+take_at client thread None = None
+take_at client thread (Some reply) = Some (with_waiter client thread None)
 
--- what is shown of an event that gives a row, or where it doesn't apply
-abbrev pub shown_row : Shown → Option Waiter → Option Waiter → Shown
-shown_row shown (Some row) waiter = shown
-shown_row shown None waiter = shows.No (phase_of waiter)
+abbrev pub take_row : ℕ → Client → Option Client
+take_row thread client = take_at client thread (waiting_reply (client.waiters thread))
 
-abbrev pub shown_exec : World → Option Asking → Option Waiter → Shown
-shown_exec world (Some asking) waiter = shows.Replied (replied_at (state_of world) world.moment asking.op)
-shown_exec world None waiter = shows.No (phase_of waiter)
+-- What is shown of an event.
 
-abbrev pub shown_take : Option Reply → Option Waiter → Shown
-shown_take (Some reply) waiter = shows.Done reply
-shown_take None waiter = shows.No (phase_of waiter)
+-- of an event that gives a row, or that doesn't apply to a thread in this phase
+abbrev pub shown_row : Shown → Option Client → Found → Shown
+shown_row shown (Some client) phase = shown
+shown_row shown None phase = shows.No phase
 
--- what is shown of an event
+abbrev pub shown_exec : World → Option Asking → Found → Shown
+shown_exec world (Some asking) phase = shows.Replied (replied_at (state_of world) world.moment asking.op)
+shown_exec world None phase = shows.No phase
+
+abbrev pub shown_take : Option Reply → Found → Shown
+shown_take (Some reply) phase = shows.Done reply
+shown_take None phase = shows.No phase
+
+-- the request of a client's thread
+abbrev pub waiter_of : World → ℕ → ℕ → Option Waiter
+waiter_of world c t = (world.clients c).waiters t
+
 abbrev pub shown : World → Event → Shown
-shown world (events.Begin c t mode want) = shown_row shows.Fresh (begin_row mode want (world.waiters (thread_of c t))) (world.waiters (thread_of c t))
-shown world (events.Ask c t) = shown_row shows.Asked (ask_row (thread_of c t) world.moment (world.waiters (thread_of c t))) (world.waiters (thread_of c t))
-shown world (events.Exec c t) = shown_exec world (asked_of (world.waiters (thread_of c t))) (world.waiters (thread_of c t))
-shown world (events.Take c t) = shown_take (waiting_reply (world.waiters (thread_of c t))) (world.waiters (thread_of c t))
+shown world (events.Begin c t mode want) =
+    shown_row shows.Fresh (begin_row t mode want (world.clients c)) (phase_of (waiter_of world c t))
+shown world (events.Ask c t) =
+    shown_row shows.Asked (ask_row (owner_of c t) world.moment (world.clients c)) (phase_of (waiter_of world c t))
+shown world (events.Exec c t) = shown_exec world (asked_of (waiter_of world c t)) (phase_of (waiter_of world c t))
+shown world (events.Take c t) = shown_take (waiting_reply (waiter_of world c t)) (phase_of (waiter_of world c t))
 shown world (events.Tick moment) = shows.Moment (later world.moment moment)
 shown world (events.Force name) = shows.Replied (replied_at (state_of world) world.moment (LockForce name))
 
--- the world with another request of a thread
-abbrev pub with_waiter : World → ThreadId → Option Waiter → World
-with_waiter world id waiter = record { entries = world.entries; moment = world.moment; waiters = put same_thread world.waiters id waiter }
+-- What an event changes.
 
--- the world after a row
-abbrev pub next_row : World → ThreadId → Option Waiter → World
-next_row world id (Some row) = with_waiter world id (Some row)
-next_row world id None = world
+-- the world with another client of this number
+abbrev pub with_client : World → ℕ → Client → World
+with_client world c client = record world { clients = put ◌==◌ world.clients c client }
+
+-- the world after a row of a client
+abbrev pub next_row : World → ℕ → Option Client → World
+next_row world c (Some client) = with_client world c client
+next_row world c None = world
 
 -- the world after the server ran a call
 abbrev pub with_entry : World → ℕ → ℕ → Op → World
-with_entry world caller conn op = record { entries = world.entries ++ call_entry world.moment caller conn op ∷ []; moment = world.moment; waiters = world.waiters }
+with_entry world caller conn op =
+    record world { entries = world.entries ++ call_entry world.moment caller conn op ∷ [] }
 
-abbrev pub next_exec : World → ThreadId → Option Asking → World
-next_exec world id (Some asking) =
-    with_waiter (with_entry world (caller_of id) (command_connection id) asking.op) id
-    (answered_row asking (reply_of (state_of world).objects world.moment asking.op) (world.waiters id))
-next_exec world id None = world
+abbrev pub next_exec : World → ℕ → ℕ → Option Asking → World
+next_exec world c t (Some asking) =
+    with_client (with_entry world (caller_of c t) (command_connection c) asking.op) c
+    (client_after_exec t asking (reply_of (state_of world).objects world.moment asking.op) (world.clients c))
+next_exec world c t None = world
 
--- a request whose reply was taken has ended
-abbrev pub next_take : World → ThreadId → Option Reply → World
-next_take world id (Some reply) = with_waiter world id None
-next_take world id None = world
-
--- the world after an event
 abbrev pub next : World → Event → World
-next world (events.Begin c t mode want) = next_row world (thread_of c t) (begin_row mode want (world.waiters (thread_of c t)))
-next world (events.Ask c t) = next_row world (thread_of c t) (ask_row (thread_of c t) world.moment (world.waiters (thread_of c t)))
-next world (events.Exec c t) = next_exec world (thread_of c t) (asked_of (world.waiters (thread_of c t)))
-next world (events.Take c t) = next_take world (thread_of c t) (waiting_reply (world.waiters (thread_of c t)))
-next world (events.Tick moment) = record { entries = world.entries; moment = later world.moment moment; waiters = world.waiters }
-next world (events.Force name) = with_entry world 0 0 (LockForce name)
+next world (events.Begin c t mode want) = next_row world c (begin_row t mode want (world.clients c))
+next world (events.Ask c t) = next_row world c (ask_row (owner_of c t) world.moment (world.clients c))
+next world (events.Exec c t) = next_exec world c t (asked_of (waiter_of world c t))
+next world (events.Take c t) = next_row world c (take_row t (world.clients c))
+next world (events.Tick moment) = record world { moment = later world.moment moment }
+next world (events.Force name) = with_entry world operator operator_connection (LockForce name)
 
 -- the world after these events
 abbrev pub world_after : World → List Event → World
 world_after world [] = world
 world_after world (event ∷ events) = world_after (next world event) events
 
--- Who acts in the history, and how.
-abbrev pub signed : List Entry → List (ℕ × Act)
-signed [] = []
-signed (entry ∷ entries) = (entry.caller, entry.act) ∷ signed entries
+-- Who acts in the history, on which connection, and how.
 
--- the acts of one caller among these, in order
-abbrev pub acts_by : ℕ → List (ℕ × Act) → List Act
-acts_by caller [] = []
-acts_by caller (act ∷ acts) = if act.0 == caller then act.1 ∷ acts_by caller acts else acts_by caller acts
+-- an act, with its caller and its connection
+pub record Deed : Type 0 where
+  pub caller : ℕ
+  pub conn : ℕ
+  pub act : Act
+
+-- the deeds of a history
+abbrev pub deeds_of : List Entry → List Deed
+deeds_of [] = []
+deeds_of (entry ∷ entries) = record { caller = entry.caller; conn = entry.conn; act = entry.act } ∷ deeds_of entries
+
+-- those of one caller among these, in order
+abbrev pub deeds_by : ℕ → List Deed → List Deed
+deeds_by caller [] = []
+deeds_by caller (deed ∷ deeds) =
+    if deed.caller == caller then deed ∷ deeds_by caller deeds else deeds_by caller deeds
 
 -- what an event makes the server do, and for whom, where the event applies
-abbrev pub act_of_exec : ThreadId → Option Asking → List (ℕ × Act)
-act_of_exec id (Some asking) = (caller_of id, Call asking.op) ∷ []
-act_of_exec id None = []
+abbrev pub deeds_of_exec : ℕ → ℕ → Option Asking → List Deed
+deeds_of_exec c t (Some asking) =
+    record { caller = caller_of c t; conn = command_connection c; act = Call asking.op } ∷ []
+deeds_of_exec c t None = []
 
-abbrev pub acts_of : World → Event → List (ℕ × Act)
-acts_of world (events.Exec c t) = act_of_exec (thread_of c t) (asked_of (world.waiters (thread_of c t)))
-acts_of world (events.Force name) = (0, Call (LockForce name)) ∷ []
-acts_of world (events.Begin c t mode want) = []
-acts_of world (events.Ask c t) = []
-acts_of world (events.Take c t) = []
-acts_of world (events.Tick moment) = []
+abbrev pub deeds_of_event : World → Event → List Deed
+deeds_of_event world (events.Exec c t) = deeds_of_exec c t (asked_of (waiter_of world c t))
+deeds_of_event world (events.Force name) =
+    record { caller = operator; conn = operator_connection; act = Call (LockForce name) } ∷ []
+deeds_of_event world (events.Begin c t mode want) = []
+deeds_of_event world (events.Ask c t) = []
+deeds_of_event world (events.Take c t) = []
+deeds_of_event world (events.Tick moment) = []
 
 -- what these events make the server do, in their order
-abbrev pub acts_made : World → List Event → List (ℕ × Act)
-acts_made world [] = []
-acts_made world (event ∷ events) = acts_of world event ++ acts_made (next world event) events
+abbrev pub deeds_made : World → List Event → List Deed
+deeds_made world [] = []
+deeds_made world (event ∷ events) = deeds_of_event world event ++ deeds_made (next world event) events

@@ -5,7 +5,6 @@
 mod entry;
 mod event;
 mod hold;
-mod laws;
 mod schedule_line;
 mod shown;
 mod waiter;
@@ -13,7 +12,6 @@ mod waiter;
 pub use entry::{Act, Entry};
 pub use event::Event;
 pub use hold::Hold;
-pub use laws::{every_schedule_goes_well, tenures_never_conflict};
 pub use schedule_line::ScheduleLine;
 pub use shown::{Found, Reached, Replied, Shown};
 pub use waiter::{Asking, Stage, ThreadId, Waiter};

@@ -17,13 +17,17 @@ pub struct Asking {
     pub op: Op,
     /// When it was sent, in milliseconds.
     pub at: u64,
+    /// How many messages had woken all who wait on its channel, when it was sent.
+    pub seen: u64,
+    /// Whether the watchdog's lease was taken, since its owner has the object renewed.
+    pub watched: bool,
 }
 
 /// How far a request has come.
 #[derive(Clone, Copy, PartialEq, Eq)]
 pub enum Stage {
-    /// It has begun.
-    Fresh,
+    /// It has begun, and has this ticket to send its call.
+    Fresh(u64),
     /// Its call was sent.
     Asked(Asking),
     /// Its call was executed, with this reply.
@@ -31,7 +35,7 @@ pub enum Stage {
 }
 
 /// A request of a thread that hasn't ended.
-#[derive(Clone, Copy, PartialEq, Eq)]
+#[derive(Clone, Copy)]
 pub struct Waiter {
     /// How long it may wait.
     pub mode: Mode,
@@ -39,6 +43,8 @@ pub struct Waiter {
     pub want: Want,
     /// How far it has come.
     pub stage: Stage,
+    /// Whether it counts among those that wait on its channel.
+    pub registered: bool,
 }
 
 impl Model for Waiter {
@@ -46,7 +52,7 @@ impl Model for Waiter {
 
     ghost Value = { WaiterValue };
 
-    ghost view = { λ v. record { mode = v.mode; want = v.want; stage = v.stage } };
+    ghost view = { λ v. record { mode = v.mode; want = v.want; stage = v.stage; registered = v.registered } };
 
-    ghost inverse = { λ v. record { mode = v.mode; want = v.want; stage = v.stage } };
+    ghost inverse = { λ v. record { mode = v.mode; want = v.want; stage = v.stage; registered = v.registered } };
 }
