@@ -4,8 +4,8 @@ use Rattle.std.proofs.lemmas.Int.{ints}
 use Rattle.lr_keys.specs.declared.value_kind.ValueKind.{ValueKind}
 use Rattle.lr_keys.specs.FieldMap.{field_value, sum_of, with_field, without_field}
 use Rattle.lr_keys.specs.KeySpace.{Keys, Plan, IsPrepared, is_plan_for, plan_at, plans_after}
-use Rattle.lr_keys.specs.Table.{put}
-use Rattle.lr_keys.proofs.TableLaws.{bytes_eq-other, bytes_eq-same, put-other, put-same}
+use Rattle.lr_keys.specs.Table.{with_key}
+use Rattle.lr_keys.proofs.TableLaws.{bytes_eq-other, bytes_eq-same, with_key-other, with_key-same}
 
 -- numbers that stay small add up
 pub sum_of-up : (n m : ℕ) → n + m < 2 ^ 63 → sum_of (pos n) (pos m) ≡ Some (pos (n + m))
@@ -19,13 +19,13 @@ pub plans_after-other : (was_there : Bool) (key : List ℕ) (kind : ValueKind) (
 plans_after-other true key kind member plans q apart = refl
 plans_after-other false key kind member plans q apart = by (is_plan_for kind member (plans key))
   where
-    by : (b : Bool) → (if b then put key None plans else plans) q ≡ plans q
-    by true = put-other key None plans q apart
+    by : (b : Bool) → (if b then with_key key None plans else plans) q ≡ plans q
+    by true = with_key-other key None plans q apart
     by false = refl
 
 -- what was prepared for the key and the member is prepared
-pub IsPrepared-put : (before after : Keys) (key : List ℕ) (kind : ValueKind) (member : List ℕ) → plan_at after ≡ put key (Some (record { kind = kind; member = member })) (plan_at before) → IsPrepared after key kind member
-IsPrepared-put before after key kind member prepared = ap (λ (f : List ℕ → Option Plan). f key) prepared ∙ put-same key (Some (record { kind = kind; member = member })) (plan_at before)
+pub IsPrepared-with_key : (before after : Keys) (key : List ℕ) (kind : ValueKind) (member : List ℕ) → plan_at after ≡ with_key key (Some (record { kind = kind; member = member })) (plan_at before) → IsPrepared after key kind member
+IsPrepared-with_key before after key kind member prepared = ap (λ (f : List ℕ → Option Plan). f key) prepared ∙ with_key-same key (Some (record { kind = kind; member = member })) (plan_at before)
 
 -- a hash of one field
 module _ (field : List ℕ) (n m : ℤ) where

@@ -1,5 +1,6 @@
 pub mod FieldMapLemmas
-pub mod KeptLemmas
+pub mod FrameLaws
 pub mod KeyLaws
 pub mod LiveLemmas
+pub mod SlotLemmas
 pub mod TableLaws

@@ -7,13 +7,13 @@ use Rattle.std.specs.Option.{ForSome, option_map}
 use Rattle.std.specs.Map.{lookup, values_of}
 use Rattle.std.specs.Str.{bytes_eq}
 use Rattle.indexmap.specs.IndexMap.{get, spare, index_map_len}
-use Rattle.lr_keys.specs.declared.TheConstants.{MAX_MOMENT}
+use Rattle.lr_limits.specs.Limits.{last_moment}
 use Rattle.lr_keys.specs.declared.key_space.KeySpace.TheInside.{Inside}
 use Rattle.lr_keys.specs.declared.slot.Slot.{Slot}
 use Rattle.lr_keys.specs.declared.value_kind.ValueKind.{ValueKind}
 use Rattle.lr_keys.specs.KeySpace.{Keys, entry_at, is_ahead, live_entry, live_entries}
-use Rattle.lr_keys.specs.Kept.{IsKept, IsRoomFor, live_slot, shown, shown_keys, sooner_of}
-use Rattle.lr_keys.proofs.KeptLemmas.{entry_at-shown}
+use Rattle.lr_keys.specs.Slots.{IsKeySpace, IsRoomFor, live_slot, key_entry_of, keys_of, sooner_of}
+use Rattle.lr_keys.proofs.SlotLemmas.{entry_at-keys_of}
 
 pub option_filter-live : (moment : ℕ) (o : Option Slot) → option_filter (λ slot. is_ahead moment slot.expiry) o ≡ live_slot moment o
 option_filter-live moment None = refl
@@ -43,11 +43,11 @@ least_le least test (x ∷ xs) slot e found at = by (test x.0) found (λ there. 
     by false there rest = rest there
 
 -- what is left of a slot is shown as what is left of the entry
-live_entry-shown : (moment : ℕ) (o : Option Slot) → option_map shown (live_slot moment o) ≡ live_entry moment (option_map shown o)
-live_entry-shown moment None = refl
-live_entry-shown moment (Some slot) = by (is_ahead moment slot.expiry)
+key_entry_of-live_slot : (moment : ℕ) (o : Option Slot) → option_map key_entry_of (live_slot moment o) ≡ live_entry moment (option_map key_entry_of o)
+key_entry_of-live_slot moment None = refl
+key_entry_of-live_slot moment (Some slot) = by (is_ahead moment slot.expiry)
   where
-    by : (b : Bool) → option_map shown (if b then Some slot else None) ≡ (if b then Some (shown slot) else None)
+    by : (b : Bool) → option_map key_entry_of (if b then Some slot else None) ≡ (if b then Some (key_entry_of slot) else None)
     by true = refl
     by false = refl
 
@@ -83,13 +83,13 @@ IsRoomFor-live moment (Some slot) kind room = by (is_ahead moment slot.expiry)
 
 module _ (s t : Inside) where
   -- what is left of the slots, as what is left of the entries
-  pub entry_at-live : (old : Keys) (moment : ℕ) → shown_keys s ≡ old → ((q : List ℕ) → get bytes_eq t.slots q ≡ live_slot moment (get bytes_eq s.slots q)) → entry_at (shown_keys t) ≡ live_entries moment (entry_at old)
-  entry_at-live old moment view slots = λ i q. (entry_at-shown t q ∙ ap (option_map shown) (slots q) ∙ live_entry-shown moment (get bytes_eq s.slots q) ∙ ap (live_entry moment) (sym (entry_at-shown s q) ∙ ap (λ k. entry_at k q) view)) i
+  pub entry_at-live : (old : Keys) (moment : ℕ) → keys_of s ≡ old → ((q : List ℕ) → get bytes_eq t.slots q ≡ live_slot moment (get bytes_eq s.slots q)) → entry_at (keys_of t) ≡ live_entries moment (entry_at old)
+  entry_at-live old moment view slots = λ i q. (entry_at-keys_of t q ∙ ap (option_map key_entry_of) (slots q) ∙ key_entry_of-live_slot moment (get bytes_eq s.slots q) ∙ ap (live_entry moment) (sym (entry_at-keys_of s q) ∙ ap (λ k. entry_at k q) view)) i
 
   -- what is kept stays so where what is gone is removed
-  pub IsKept-live : IsKept s → t.moment ≤ MAX_MOMENT → t.spares ≡ s.spares → ((q : List ℕ) → get bytes_eq t.slots q ≡ live_slot t.moment (get bytes_eq s.slots q))
-      → ((q : List ℕ) → ForSome (get bytes_eq t.slots q) (λ slot. ForSome slot.expiry (λ e. t.least_expiry ≤ e))) → spare s.slots ≤ spare t.slots → IsKept t
-  IsKept-live kept moment spares slots bound room = record {
+  pub IsKeySpace-live : IsKeySpace s → t.moment ≤ last_moment → t.spares ≡ s.spares → ((q : List ℕ) → get bytes_eq t.slots q ≡ live_slot t.moment (get bytes_eq s.slots q))
+      → ((q : List ℕ) → ForSome (get bytes_eq t.slots q) (λ slot. ForSome slot.expiry (λ e. t.least_expiry ≤ e))) → spare s.slots ≤ spare t.slots → IsKeySpace t
+  IsKeySpace-live kept moment spares slots bound room = record {
     moment = moment;
     slots = λ key slot at.
         let was = left t.moment (get bytes_eq s.slots key) slot (sym (slots key) ∙ at) in
@@ -105,5 +105,5 @@ module _ (s t : Inside) where
   }
 
 -- before the bound nothing is gone
-pub live_before_bound : (s : Inside) (moment : ℕ) → IsKept s → moment < s.least_expiry → (q : List ℕ) → get bytes_eq s.slots q ≡ live_slot moment (get bytes_eq s.slots q)
+pub live_before_bound : (s : Inside) (moment : ℕ) → IsKeySpace s → moment < s.least_expiry → (q : List ℕ) → get bytes_eq s.slots q ≡ live_slot moment (get bytes_eq s.slots q)
 live_before_bound s moment kept before q = live_slot-later moment (get bytes_eq s.slots q) (λ slot at e ahead. let bound : s.least_expiry ≤ e = (kept.slots q slot at).bound e ahead in omega arith)

@@ -2,14 +2,15 @@
 use Rattle.std.specs.Prelude.{◌≡◌, ◌+◌, ◌-◌, ◌≤◌, ◌<◌, ℕ, Bool, true, false, nat_lt, ◌&&◌, List, [], ◌∷◌, length, Option, Some, None, is_some, Result, Ok, Err, IsOk, ℤ, pos, negsuc, if◌then◌else◌}
 use Rattle.std.specs.Option.{ok_or, ForSome}
 use Rattle.std.specs.Str.{bytes_eq}
+use Rattle.std.specs.List.{list_any}
 use Rattle.std.specs.Map.{lookup}
-use Rattle.lr_keys.specs.declared.TheConstants.{MAX_MEMBERS, MAX_MOMENT, MAX_LEASE}
+use Rattle.lr_limits.specs.Limits.{member_limit, last_moment, longest_lease}
 use Rattle.lr_keys.specs.declared.fault.KeyFault.{KeyFault}
 use Rattle.lr_keys.specs.declared.fault.KeyFault.TheVariants.{WrongKind, Overflow, TooMany, NoMemory}
 use Rattle.lr_keys.specs.declared.value_kind.ValueKind.{ValueKind}
 use Rattle.lr_keys.specs.declared.value_kind.ValueKind.TheVariants.{Hash, List as ListKind, Zset, Counter}
 use Rattle.lr_keys.specs.FieldMap.{field_value, with_field, without_field, sum_of}
-use Rattle.lr_keys.specs.Table.{put}
+use Rattle.lr_keys.specs.Table.{with_key}
 
 -- what a key holds: the fields of a hash in order of making, or the number of a counter
 pub data Content : Type 0 where
@@ -17,7 +18,7 @@ pub data Content : Type 0 where
   Number : ℤ → Content
 
 -- a key's value, and the moment from which on the key is gone, if any
-pub record Entry : Type 0 where
+pub record KeyEntry : Type 0 where
   pub value : Content
   pub expiry : Option ℕ
 
@@ -29,11 +30,11 @@ pub record Plan : Type 0 where
 -- a key space: the moment, the keys, and the keys for which memory was taken
 pub record Keys : Type 0 where
   pub moment : ℕ
-  pub entries : List (List ℕ × Entry)
+  pub entries : List (List ℕ × KeyEntry)
   pub plans : List (List ℕ × Plan)
 
 -- what is at a key
-unfoldable pub entry_at : Keys → List ℕ → Option Entry
+unfoldable pub entry_at : Keys → List ℕ → Option KeyEntry
 entry_at keys key = lookup (bytes_eq key) keys.entries
 
 -- what memory was taken for at a key
@@ -45,22 +46,22 @@ abbrev pub IsPrepared : Keys → List ℕ → ValueKind → List ℕ → Type 0
 IsPrepared keys key kind member = plan_at keys key ≡ Some (record { kind = kind; member = member })
 
 -- an entry of a key that is there at the moment: its expiry lies ahead, by a lease at most, and a hash has 1 to MAX_MEMBERS fields
-pub record IsLive (moment : ℕ) (entry : Entry) : Type 0 where
+pub record IsLive (moment : ℕ) (entry : KeyEntry) : Type 0 where
   pub ahead : ForSome entry.expiry (λ expiry. moment < expiry)
-  pub near : ForSome entry.expiry (λ expiry. expiry ≤ MAX_MOMENT + MAX_LEASE)
+  pub near : ForSome entry.expiry (λ expiry. expiry ≤ last_moment + longest_lease)
   pub some_fields : (pairs : List (List ℕ × ℤ)) → entry.value ≡ Fields pairs → 0 < length pairs
-  pub few_fields : (pairs : List (List ℕ × ℤ)) → entry.value ≡ Fields pairs → length pairs ≤ MAX_MEMBERS
+  pub few_fields : (pairs : List (List ℕ × ℤ)) → entry.value ≡ Fields pairs → length pairs ≤ member_limit
 
 -- each key is there at the moment, and the moment is one that a clock shows
-pub record IsSound (keys : Keys) : Type 0 where
-  pub moment : keys.moment ≤ MAX_MOMENT
+pub record AreLive (keys : Keys) : Type 0 where
+  pub moment : keys.moment ≤ last_moment
   pub live : (key : List ℕ) → ForSome (entry_at keys key) (IsLive keys.moment)
 
 -- the call answers so, but where it would succeed it may find no memory
 abbrev pub Answers : {T U : Type 0} → (T → U) → Result T KeyFault → Result U KeyFault → Type 0
-Answers shown (Ok v) answer = answer ≡ Ok (shown v)
-Answers shown (Err NoMemory) answer = IsOk answer
-Answers shown (Err fault) answer = answer ≡ Err fault
+Answers show (Ok v) answer = answer ≡ Ok (show v)
+Answers show (Err NoMemory) answer = IsOk answer
+Answers show (Err fault) answer = answer ≡ Err fault
 
 -- the kind of a value (Redis command page TYPE)
 abbrev pub kind_in : Content → ValueKind
@@ -68,7 +69,7 @@ kind_in (Fields _) = Hash
 kind_in (Number _) = Counter
 
 -- the kind of the key's value, if the key is there
-abbrev pub kind_at : Option Entry → Option ValueKind
+abbrev pub kind_at : Option KeyEntry → Option ValueKind
 kind_at None = None
 kind_at (Some e) = Some (kind_in e.value)
 
@@ -78,7 +79,7 @@ hash_in (Fields pairs) = Ok pairs
 hash_in (Number _) = Err WrongKind
 
 -- the fields of the key's hash: an absent key is an empty hash (Redis command page HGETALL)
-abbrev pub hash_at : Option Entry → Result (List (List ℕ × ℤ)) KeyFault
+abbrev pub hash_at : Option KeyEntry → Result (List (List ℕ × ℤ)) KeyFault
 hash_at None = Ok []
 hash_at (Some e) = hash_in e.value
 
@@ -88,7 +89,7 @@ counter_in (Number n) = Ok (Some n)
 counter_in (Fields _) = Err WrongKind
 
 -- the number of the key's counter, if the key is there (Redis command page GET)
-abbrev pub counter_at : Option Entry → Result (Option ℤ) KeyFault
+abbrev pub counter_at : Option KeyEntry → Result (Option ℤ) KeyFault
 counter_at None = Ok None
 counter_at (Some e) = counter_in e.value
 
@@ -98,7 +99,7 @@ field_of field (Ok pairs) = Ok (field_value field pairs)
 field_of field (Err fault) = Err fault
 
 -- the number of a field of the key's hash, if the field is there (Redis command page HGET)
-abbrev pub field_at : List ℕ → Option Entry → Result (Option ℤ) KeyFault
+abbrev pub field_at : List ℕ → Option KeyEntry → Result (Option ℤ) KeyFault
 field_at field entry = field_of field (hash_at entry)
 
 -- whether the number is there
@@ -113,19 +114,19 @@ found_in (Err fault) = Err fault
 
 -- what an increment makes of a number: a number that isn't there counts as 0, and a hash takes MAX_MEMBERS fields (Redis command
 -- pages HINCRBY and INCRBY; the limit is this project's own)
-abbrev pub raised : ℤ → Bool → Option ℤ → Result ℤ KeyFault
-raised by has_room (Some number) = ok_or (sum_of number by) Overflow
-raised by has_room None = if has_room then Ok by else Err TooMany
+abbrev pub number_after_increment : ℤ → Bool → Option ℤ → Result ℤ KeyFault
+number_after_increment by has_room (Some number) = ok_or (sum_of number by) Overflow
+number_after_increment by has_room None = if has_room then Ok by else Err TooMany
 
 -- what it makes of a field of a hash
-abbrev pub raised_in : List ℕ → ℤ → Result (List (List ℕ × ℤ)) KeyFault → Result ℤ KeyFault
-raised_in field by (Ok pairs) = raised by (nat_lt (length pairs) MAX_MEMBERS) (field_value field pairs)
-raised_in field by (Err fault) = Err fault
+abbrev pub field_after_increment : List ℕ → ℤ → Result (List (List ℕ × ℤ)) KeyFault → Result ℤ KeyFault
+field_after_increment field by (Ok pairs) = number_after_increment by (nat_lt (length pairs) member_limit) (field_value field pairs)
+field_after_increment field by (Err fault) = Err fault
 
 -- and of a counter
-abbrev pub raised_counter : ℤ → Result (Option ℤ) KeyFault → Result ℤ KeyFault
-raised_counter by (Ok number) = raised by true number
-raised_counter by (Err fault) = Err fault
+abbrev pub counter_after_increment : ℤ → Result (Option ℤ) KeyFault → Result ℤ KeyFault
+counter_after_increment by (Ok number) = number_after_increment by true number
+counter_after_increment by (Err fault) = Err fault
 
 -- the value with this number for the field
 abbrev pub content_with_field : List ℕ → ℤ → Content → Content
@@ -133,12 +134,12 @@ content_with_field field number (Fields pairs) = Fields (with_field field number
 content_with_field field number (Number n) = Number n
 
 -- the entry with this number for the field: an absent key is made with no expiry, and else the expiry stays (Redis command page HINCRBY)
-abbrev pub entry_with_field : List ℕ → ℤ → Option Entry → Entry
+abbrev pub entry_with_field : List ℕ → ℤ → Option KeyEntry → KeyEntry
 entry_with_field field number None = record { value = Fields ((field, number) ∷ []); expiry = None }
 entry_with_field field number (Some e) = record e { value = content_with_field field number e.value }
 
 -- the entry with this number of the counter: an absent key is made with no expiry, and else the expiry stays (Redis command page INCRBY)
-abbrev pub entry_with_number : ℤ → Option Entry → Entry
+abbrev pub entry_with_number : ℤ → Option KeyEntry → KeyEntry
 entry_with_number number None = record { value = Number number; expiry = None }
 entry_with_number number (Some e) = record e { value = Number number }
 
@@ -154,16 +155,16 @@ is_empty_hash (Fields (p ∷ ps)) = false
 is_empty_hash (Number n) = false
 
 -- the entry with this value, which is none for an empty hash
-abbrev pub entry_with_value : Content → Option ℕ → Option Entry
+abbrev pub entry_with_value : Content → Option ℕ → Option KeyEntry
 entry_with_value value expiry = if is_empty_hash value then None else Some (record { value = value; expiry = expiry })
 
 -- the entry without the field: a hash that becomes empty is removed (Redis command page HDEL)
-abbrev pub entry_without_field : List ℕ → Option Entry → Option Entry
+abbrev pub entry_without_field : List ℕ → Option KeyEntry → Option KeyEntry
 entry_without_field field None = None
 entry_without_field field (Some e) = entry_with_value (content_without_field field e.value) e.expiry
 
 -- the entry with this expiry (Redis command page PEXPIREAT)
-abbrev pub entry_with_expiry : ℕ → Option Entry → Option Entry
+abbrev pub entry_with_expiry : ℕ → Option KeyEntry → Option KeyEntry
 entry_with_expiry expiry None = None
 entry_with_expiry expiry (Some e) = Some (record e { expiry = Some expiry })
 
@@ -173,7 +174,7 @@ time_to moment (Some expiry) = pos (expiry - moment)
 time_to moment None = negsuc 0
 
 -- the milliseconds left of the key: -2 where it is absent, -1 where it has no expiry (Redis command page PTTL)
-abbrev pub time_left : ℕ → Option Entry → ℤ
+abbrev pub time_left : ℕ → Option KeyEntry → ℤ
 time_left moment (Some e) = time_to moment e.expiry
 time_left moment None = negsuc 1
 
@@ -183,13 +184,18 @@ is_ahead moment (Some expiry) = nat_lt moment expiry
 is_ahead moment None = true
 
 -- what is left of a key at the moment
-abbrev pub live_entry : ℕ → Option Entry → Option Entry
+abbrev pub live_entry : ℕ → Option KeyEntry → Option KeyEntry
 live_entry moment (Some e) = if is_ahead moment e.expiry then Some e else None
 live_entry moment None = None
 
 -- the keys that are there at the moment
-abbrev pub live_entries : ℕ → (List ℕ → Option Entry) → List ℕ → Option Entry
+abbrev pub live_entries : ℕ → (List ℕ → Option KeyEntry) → List ℕ → Option KeyEntry
 live_entries moment entries key = live_entry moment (entries key)
+
+-- every key that isn't in the list holds what is live of it at the new moment (this project's own)
+abbrev pub OthersAreLive : List (List ℕ) → Keys → Keys → Type 0
+OthersAreLive list old new = (key : List ℕ) → list_any (bytes_eq key) list ≡ false
+    → entry_at new key ≡ live_entry new.moment (entry_at old key)
 
 -- whether two kinds are the same
 abbrev pub is_same_kind : ValueKind → ValueKind → Bool
@@ -206,4 +212,4 @@ is_plan_for kind member None = false
 
 -- what is prepared once the key has the member: what was prepared for it is used up, if it wasn't there
 abbrev pub plans_after : Bool → List ℕ → ValueKind → List ℕ → (List ℕ → Option Plan) → List ℕ → Option Plan
-plans_after was_there key kind member plans = if was_there then plans else (if is_plan_for kind member (plans key) then put key None plans else plans)
+plans_after was_there key kind member plans = if was_there then plans else (if is_plan_for kind member (plans key) then with_key key None plans else plans)

@@ -1,5 +1,4 @@
 pub mod FieldMap
 pub mod KeySpace
-pub mod Kept
+pub mod Slots
 pub mod Table
-pub mod Fault

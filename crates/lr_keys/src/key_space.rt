@@ -1,17 +1,19 @@
-ghost use Rattle.std.specs.Prelude.{◌≡◌, ℕ, ℤ, List, [], ◌+◌, ◌<◌, ◌≤◌, length, None, IsSome, IsTrue, IsOk, IfOk, OnOk, OnErr, is_some, false, true, ◌≢◌, max, option_map, if◌then◌else◌};
+ghost use Rattle.std.specs.Prelude.{◌≡◌, ℕ, ℤ, List, [], ◌+◌, ◌<◌, ◌≤◌, length, None, IsSome, IsTrue, IsOk, IfOk, OnOk, OnErr, is_some, nat_lt, false, true, ◌≢◌, max, option_map, if◌then◌else◌};
 ghost use Rattle.std.specs.Option.{option_copied, ForSome};
 ghost use Rattle.std.specs.Str.{bytes_eq};
 ghost use Rattle.indexmap.specs.IndexMap.{get, index_map_len, spare};
-ghost use Rattle.lr_keys.specs.KeySpace.{Answers, IsLive, IsPrepared, IsSound, entry_at, plan_at, is_plan_for, plans_after, kind_at, hash_at, counter_at, field_at, found_in, is_there, raised_in, raised_counter, entry_with_field, entry_with_number, entry_without_field, entry_with_expiry, time_left, live_entries};
-ghost use Rattle.lr_keys.specs.Table.{put};
+ghost use Rattle.lr_keys.specs.KeySpace.{Answers, IsLive, IsPrepared, AreLive, entry_at, plan_at, is_plan_for, plans_after, kind_at, hash_at, counter_at, field_at, found_in, is_there, field_after_increment, counter_after_increment, entry_with_field, entry_with_number, entry_without_field, entry_with_expiry, time_left, live_entries};
+ghost use Rattle.lr_keys.specs.Table.{with_key};
+ghost use Rattle.lr_limits.specs.Limits.{last_moment, longest_lease, member_limit};
 
+use super::PREPARED_KEYS;
 use super::fault::KeyFault;
 use super::field_map::{FieldMap, checked_sum};
 use super::slot::{Slot, Spare, Stored};
 use super::tables::{drop_spare, insert_slot, make_room, remove_gone, remove_if, take_spare};
 use super::value_kind::ValueKind;
-use super::{MAX_LEASE, MAX_MEMBERS, MAX_MOMENT, PREPARED_KEYS};
 use indexmap::IndexMap;
+use lr_limits::MOST_MEMBERS;
 use lr_text::Brief;
 use std::alloc::{AllocError, Global};
 use std::marker::Model;
@@ -36,15 +38,15 @@ impl Model for KeySpace {
 
     ghost Value = { Keys };
 
-    ghost use Rattle.lr_keys.specs.Kept.{shown_keys, IsKept};
+    ghost use Rattle.lr_keys.specs.Slots.{keys_of, IsKeySpace};
 
-    ghost view = { shown_keys };
+    ghost view = { keys_of };
 
-    ghost invariant = { IsKept };
+    ghost invariant = { IsKeySpace };
 }
 
 impl KeySpace {
-    ghost use Rattle.lr_keys.specs.Kept.{HasRoom, new_slot, shown};
+    ghost use Rattle.lr_keys.specs.Slots.{HasRoom, new_slot, key_entry_of};
 
     /// No keys, at moment 0.
     pub fn new(alloc: Global) -> Result<Self, AllocError>
@@ -63,25 +65,25 @@ impl KeySpace {
     /// The moment.
     pub fn moment(&self) -> u64
         ensures moment { result ≡ self.now.moment }
-        ensures sound { IsSound self.now }
+        ensures live { AreLive self.now }
     {
         self.moment
     }
 
     // What is at the key.
     fn slot(&self, key: &Brief) -> Option<&Slot>
-        ensures entry { entry_at self.now key.now ≡ option_map shown (option_copied result) }
-        ensures live { ForSome (option_copied result) (λ s. IsLive self.now.moment (shown s)) }
+        ensures entry { entry_at self.now key.now ≡ option_map key_entry_of (option_copied result) }
+        ensures live { ForSome (option_copied result) (λ s. IsLive self.now.moment (key_entry_of s)) }
     {
         self.slots.get(key)
     }
 
     /// Goes on to this moment, and stays where it is earlier. Removes each key whose expiry is at most the moment.
     pub fn advance(&mut self, moment: u64)
-        requires { moment ≤ MAX_MOMENT }
+        requires { moment ≤ last_moment }
         ensures moment { self.new.moment ≡ max self.old.moment moment }
         ensures entries { entry_at self.new ≡ live_entries (max self.old.moment moment) (entry_at self.old) }
-        ensures sound { IsSound self.new }
+        ensures live { AreLive self.new }
         ensures prepared { plan_at self.new ≡ plan_at self.old }
     {
         let moment = self.moment.max(moment);
@@ -155,7 +157,7 @@ impl KeySpace {
     /// Removes the key, and says whether it was there.
     pub fn del(&mut self, key: &Brief) -> bool
         ensures found { result ≡ is_some (entry_at self.old key.now) }
-        ensures removed { entry_at self.new ≡ put key.now None (entry_at self.old) }
+        ensures removed { entry_at self.new ≡ with_key key.now None (entry_at self.old) }
         ensures moment { self.new.moment ≡ self.old.moment }
         ensures prepared { plan_at self.new ≡ plan_at self.old }
         ensures absent { result ≡ false → self.new ≡ self.old }
@@ -166,10 +168,10 @@ impl KeySpace {
     /// Sets the key's expiry to this many milliseconds from the moment, and says whether the key is there.
     pub fn pexpire(&mut self, key: &Brief, millis: u64) -> bool
         requires some { 1 ≤ millis }
-        requires few { millis ≤ MAX_LEASE }
+        requires few { millis ≤ longest_lease }
         ensures found { result ≡ is_some (entry_at self.old key.now) }
         ensures expires { entry_at self.new
-            ≡ put key.now (entry_with_expiry (self.old.moment + millis) (entry_at self.old key.now)) (entry_at self.old) }
+            ≡ with_key key.now (entry_with_expiry (self.old.moment + millis) (entry_at self.old key.now)) (entry_at self.old) }
         ensures moment { self.new.moment ≡ self.old.moment }
         ensures prepared { plan_at self.new ≡ plan_at self.old }
         ensures absent { result ≡ false → self.new ≡ self.old }
@@ -195,12 +197,12 @@ impl KeySpace {
         field: &Brief,
         by: i64,
     ) -> Result<i64, KeyFault>
-        ensures answer { Answers (λ n. n) result (raised_in field.now by (hash_at (entry_at self.old key.now))) }
+        ensures answer { Answers (λ n. n) result (field_after_increment field.now by (hash_at (entry_at self.old key.now))) }
         ensures there { IsTrue (is_there (field_at field.now (entry_at self.old key.now)))
             → result ≢ Err KeyFault.NoMemory }
         ensures prepared { IsPrepared self.old key.now ValueKind.Hash field.now → result ≢ Err KeyFault.NoMemory }
         ensures written { IfOk result (λ n. entry_at self.new
-            ≡ put key.now (Some (entry_with_field field.now n (entry_at self.old key.now))) (entry_at self.old)) }
+            ≡ with_key key.now (Some (entry_with_field field.now n (entry_at self.old key.now))) (entry_at self.old)) }
         ensures plans { OnOk result (plan_at self.new
             ≡ plans_after (is_there (field_at field.now (entry_at self.old key.now))) key.now ValueKind.Hash field.now (plan_at self.old)) }
         ensures moment { self.new.moment ≡ self.old.moment }
@@ -211,7 +213,7 @@ impl KeySpace {
             self.write_field(key, field, sum);
             return Ok(sum);
         }
-        if self.fields(key) >= MAX_MEMBERS {
+        if !self.takes_field(key) {
             return Err(KeyFault::TooMany);
         }
         self.new_field(alloc, key, field, by)?;
@@ -223,11 +225,11 @@ impl KeySpace {
     /// `WrongKind` where the key holds another kind, `Overflow` where the sum leaves 64 signed bits. `NoMemory` comes only for a new
     /// key that isn't prepared.
     pub fn incrby(&mut self, key: &Brief, by: i64) -> Result<i64, KeyFault>
-        ensures answer { Answers (λ n. n) result (raised_counter by (counter_at (entry_at self.old key.now))) }
+        ensures answer { Answers (λ n. n) result (counter_after_increment by (counter_at (entry_at self.old key.now))) }
         ensures there { IsTrue (is_there (counter_at (entry_at self.old key.now))) → result ≢ Err KeyFault.NoMemory }
         ensures prepared { IsPrepared self.old key.now ValueKind.Counter [] → result ≢ Err KeyFault.NoMemory }
         ensures written { IfOk result (λ n. entry_at self.new
-            ≡ put key.now (Some (entry_with_number n (entry_at self.old key.now))) (entry_at self.old)) }
+            ≡ with_key key.now (Some (entry_with_number n (entry_at self.old key.now))) (entry_at self.old)) }
         ensures plans { OnOk result (plan_at self.new
             ≡ plans_after (is_there (counter_at (entry_at self.old key.now))) key.now ValueKind.Counter [] (plan_at self.old)) }
         ensures moment { self.new.moment ≡ self.old.moment }
@@ -250,7 +252,7 @@ impl KeySpace {
     pub fn hdel(&mut self, key: &Brief, field: &Brief) -> Result<bool, KeyFault>
         ensures answer { result ≡ found_in (field_at field.now (entry_at self.old key.now)) }
         ensures removed { result ≡ Ok true → entry_at self.new
-            ≡ put key.now (entry_without_field field.now (entry_at self.old key.now)) (entry_at self.old) }
+            ≡ with_key key.now (entry_without_field field.now (entry_at self.old key.now)) (entry_at self.old) }
         ensures moment { self.new.moment ≡ self.old.moment }
         ensures prepared { plan_at self.new ≡ plan_at self.old }
         ensures absent { result ≢ Ok true → self.new ≡ self.old }
@@ -275,7 +277,7 @@ impl KeySpace {
         member: &Brief,
     ) -> Result<(), AllocError>
         ensures prepared { OnOk result (plan_at self.new
-            ≡ put key.now (Some (record { kind = kind; member = member.now })) (plan_at self.old)) }
+            ≡ with_key key.now (Some (record { kind = kind; member = member.now })) (plan_at self.old)) }
         ensures entries { entry_at self.new ≡ entry_at self.old }
         ensures moment { self.new.moment ≡ self.old.moment }
         ensures err { OnErr result (self.new ≡ self.old) }
@@ -307,6 +309,14 @@ impl KeySpace {
         }
     }
 
+    // Whether the hash has fewer fields than a key may have.
+    fn takes_field(&self, key: &Brief) -> bool
+        ensures { (pairs : List (List ℕ × ℤ)) → hash_at (entry_at self.now key.now) ≡ Ok pairs
+            → result ≡ nat_lt (length pairs) member_limit }
+    {
+        self.fields(key) < MOST_MEMBERS
+    }
+
     // Puts a new field into the hash, and makes that where the key is absent.
     fn new_field(
         &mut self,
@@ -316,9 +326,9 @@ impl KeySpace {
         number: i64,
     ) -> Result<(), AllocError>
         requires { (pairs : List (List ℕ × ℤ)) → hash_at (entry_at self.old key.now) ≡ Ok pairs
-            → length pairs < MAX_MEMBERS }
+            → length pairs < member_limit }
         ensures entry { OnOk result (entry_at self.new
-            ≡ put key.now (Some (entry_with_field field.now number (entry_at self.old key.now))) (entry_at self.old)) }
+            ≡ with_key key.now (Some (entry_with_field field.now number (entry_at self.old key.now))) (entry_at self.old)) }
         ensures moment { self.new.moment ≡ self.old.moment }
         ensures prepared { OnOk result (plan_at self.new
             ≡ plans_after false key.now ValueKind.Hash field.now (plan_at self.old)) }
@@ -350,7 +360,7 @@ impl KeySpace {
     fn write_field(&mut self, key: &Brief, field: &Brief, number: i64)
         requires { IsTrue (is_there (field_at field.now (entry_at self.old key.now))) }
         ensures entry { entry_at self.new
-            ≡ put key.now (Some (entry_with_field field.now number (entry_at self.old key.now))) (entry_at self.old) }
+            ≡ with_key key.now (Some (entry_with_field field.now number (entry_at self.old key.now))) (entry_at self.old) }
         ensures moment { self.new.moment ≡ self.old.moment }
         ensures prepared { plan_at self.new ≡ plan_at self.old }
     {
@@ -368,10 +378,10 @@ impl KeySpace {
     ) -> Result<(), AllocError>
         requires there { IsSome (entry_at self.old key.now) }
         requires few { (pairs : List (List ℕ × ℤ)) → hash_at (entry_at self.old key.now) ≡ Ok pairs
-            → length pairs < MAX_MEMBERS }
+            → length pairs < member_limit }
         requires prepared { prepared ≡ is_plan_for ValueKind.Hash field.now (plan_at self.old key.now) }
         ensures entry { OnOk result (entry_at self.new
-            ≡ put key.now (Some (entry_with_field field.now number (entry_at self.old key.now))) (entry_at self.old)) }
+            ≡ with_key key.now (Some (entry_with_field field.now number (entry_at self.old key.now))) (entry_at self.old)) }
         ensures moment { self.new.moment ≡ self.old.moment }
         ensures prepared { OnOk result (plan_at self.new
             ≡ plans_after false key.now ValueKind.Hash field.now (plan_at self.old)) }
@@ -387,10 +397,10 @@ impl KeySpace {
     // Makes a key that is absent.
     fn make_key(&mut self, key: &Brief, value: Stored) -> Result<(), AllocError>
         requires absent { entry_at self.old key.now ≡ None }
-        requires live { IsLive self.old.moment (shown (new_slot value)) }
+        requires live { IsLive self.old.moment (key_entry_of (new_slot value)) }
         requires room { HasRoom value }
         ensures entry { OnOk result (entry_at self.new
-            ≡ put key.now (Some (shown (new_slot value))) (entry_at self.old)) }
+            ≡ with_key key.now (Some (key_entry_of (new_slot value))) (entry_at self.old)) }
         ensures moment { self.new.moment ≡ self.old.moment }
         ensures prepared { plan_at self.new ≡ plan_at self.old }
         ensures err { OnErr result (self.new ≡ self.old) }
@@ -410,7 +420,7 @@ impl KeySpace {
     ) -> Result<(), AllocError>
         requires absent { entry_at self.old key.now ≡ None }
         ensures entry { OnOk result (entry_at self.new
-            ≡ put key.now (Some (entry_with_field field.now number None)) (entry_at self.old)) }
+            ≡ with_key key.now (Some (entry_with_field field.now number None)) (entry_at self.old)) }
         ensures moment { self.new.moment ≡ self.old.moment }
         ensures prepared { plan_at self.new ≡ plan_at self.old }
         ensures err { OnErr result (self.new ≡ self.old) }
@@ -425,9 +435,9 @@ impl KeySpace {
         requires absent { entry_at self.old key.now ≡ None }
         requires prepared { IsTrue (is_plan_for ValueKind.Hash field.now (plan_at self.old key.now)) }
         ensures entry { entry_at self.new
-            ≡ put key.now (Some (entry_with_field field.now number None)) (entry_at self.old) }
+            ≡ with_key key.now (Some (entry_with_field field.now number None)) (entry_at self.old) }
         ensures moment { self.new.moment ≡ self.old.moment }
-        ensures prepared { plan_at self.new ≡ put key.now None (plan_at self.old) }
+        ensures prepared { plan_at self.new ≡ with_key key.now None (plan_at self.old) }
     {
         let Spare { hash, .. } = take_spare(&mut self.spares, key);
         let mut fields = hash;
@@ -439,9 +449,9 @@ impl KeySpace {
     fn use_counter(&mut self, key: &Brief, number: i64)
         requires absent { entry_at self.old key.now ≡ None }
         requires prepared { IsTrue (is_plan_for ValueKind.Counter [] (plan_at self.old key.now)) }
-        ensures entry { entry_at self.new ≡ put key.now (Some (entry_with_number number None)) (entry_at self.old) }
+        ensures entry { entry_at self.new ≡ with_key key.now (Some (entry_with_number number None)) (entry_at self.old) }
         ensures moment { self.new.moment ≡ self.old.moment }
-        ensures prepared { plan_at self.new ≡ put key.now None (plan_at self.old) }
+        ensures prepared { plan_at self.new ≡ with_key key.now None (plan_at self.old) }
     {
         drop_spare(&mut self.spares, key);
         insert_slot(&mut self.slots, key, Stored::Counter(number));
@@ -451,7 +461,7 @@ impl KeySpace {
     fn write_counter(&mut self, key: &Brief, number: i64)
         requires { IsTrue (is_there (counter_at (entry_at self.old key.now))) }
         ensures entry { entry_at self.new
-            ≡ put key.now (Some (entry_with_number number (entry_at self.old key.now))) (entry_at self.old) }
+            ≡ with_key key.now (Some (entry_with_number number (entry_at self.old key.now))) (entry_at self.old) }
         ensures moment { self.new.moment ≡ self.old.moment }
         ensures prepared { plan_at self.new ≡ plan_at self.old }
     {
@@ -463,7 +473,7 @@ impl KeySpace {
     fn remove_field(&mut self, key: &Brief, field: &Brief)
         requires { IsTrue (is_there (field_at field.now (entry_at self.old key.now))) }
         ensures entry { entry_at self.new
-            ≡ put key.now (entry_without_field field.now (entry_at self.old key.now)) (entry_at self.old) }
+            ≡ with_key key.now (entry_without_field field.now (entry_at self.old key.now)) (entry_at self.old) }
         ensures moment { self.new.moment ≡ self.old.moment }
         ensures prepared { plan_at self.new ≡ plan_at self.old }
     {

@@ -16,15 +16,6 @@ pub use fault::KeyFault;
 pub use key_space::{Fields, KeySpace};
 pub use value_kind::ValueKind;
 
-/// The greatest moment, in milliseconds: 2^53 - 1.
-pub const MAX_MOMENT: u64 = 9_007_199_254_740_991;
-
-/// The greatest number of milliseconds from the moment to an expiry.
-pub const MAX_LEASE: u64 = 86_400_000_000;
-
-/// The greatest number of members of a key.
-pub const MAX_MEMBERS: usize = 65_536;
-
 /// For how many keys a key space has room to note what is prepared.
 pub const PREPARED_KEYS: usize = 4;
 

@@ -1,6 +1,6 @@
 ghost use Rattle.std.specs.Prelude.{◌≡◌, ℕ, ℤ, List, [], length, false, IsTrue, IsOk, IfOk, OnOk, OnErr};
 ghost use Rattle.lr_keys.specs.KeySpace.{Answers, Number, kind_in, hash_in, field_of, is_there, counter_in, content_with_field, content_without_field, is_empty_hash, is_plan_for};
-ghost use Rattle.lr_keys.specs.Kept.{shown_value, plan_of, HasRoom, IsSpareFor};
+ghost use Rattle.lr_keys.specs.Slots.{content_of, plan_of, HasRoom, IsSpareFor};
 
 use super::fault::KeyFault;
 use super::field_map::FieldMap;
@@ -33,7 +33,7 @@ pub(crate) struct Spare {
 
 impl Stored {
     pub(crate) fn kind(&self) -> ValueKind
-        ensures { result ≡ kind_in (shown_value self.now) }
+        ensures { result ≡ kind_in (content_of self.now) }
     {
         match self {
             Stored::Hash(_) => ValueKind::Hash,
@@ -42,7 +42,7 @@ impl Stored {
     }
 
     pub(crate) fn field(&self, field: &Brief) -> Result<Option<i64>, KeyFault>
-        ensures { result ≡ field_of field.now (hash_in (shown_value self.now)) }
+        ensures { result ≡ field_of field.now (hash_in (content_of self.now)) }
     {
         match self {
             Stored::Hash(fields) => Ok(fields.get(field)),
@@ -51,7 +51,7 @@ impl Stored {
     }
 
     pub(crate) fn counter(&self) -> Result<Option<i64>, KeyFault>
-        ensures { result ≡ counter_in (shown_value self.now) }
+        ensures { result ≡ counter_in (content_of self.now) }
     {
         match self {
             Stored::Counter(number) => Ok(Some(*number)),
@@ -60,7 +60,7 @@ impl Stored {
     }
 
     pub(crate) fn pairs(&self, alloc: Global) -> Result<Vec<(Brief, i64)>, KeyFault>
-        ensures { Answers (λ pairs. pairs.items) result (hash_in (shown_value self.now)) }
+        ensures { Answers (λ pairs. pairs.items) result (hash_in (content_of self.now)) }
     {
         match self {
             Stored::Hash(fields) => Ok(fields.to_pairs(alloc)?),
@@ -70,7 +70,7 @@ impl Stored {
 
     /// How many fields there are.
     pub(crate) fn fields(&self) -> usize
-        ensures { (pairs : List (List ℕ × ℤ)) → hash_in (shown_value self.now) ≡ Ok pairs → result ≡ length pairs }
+        ensures { (pairs : List (List ℕ × ℤ)) → hash_in (content_of self.now) ≡ Ok pairs → result ≡ length pairs }
     {
         match self {
             Stored::Hash(fields) => fields.len(),
@@ -80,7 +80,7 @@ impl Stored {
 
     /// Makes room for a new field of a hash.
     pub(crate) fn make_room(&mut self) -> Result<(), AllocError>
-        ensures value { shown_value self.new ≡ shown_value self.old }
+        ensures value { content_of self.new ≡ content_of self.old }
         ensures room { OnOk result (HasRoom self.new) }
         ensures kept { HasRoom self.old → HasRoom self.new }
     {
@@ -92,8 +92,8 @@ impl Stored {
 
     /// Writes a field of a hash that has it.
     pub(crate) fn write_field(&mut self, field: &Brief, number: i64)
-        requires { IsTrue (is_there (field_of field.now (hash_in (shown_value self.old)))) }
-        ensures value { shown_value self.new ≡ content_with_field field.now number (shown_value self.old) }
+        requires { IsTrue (is_there (field_of field.now (hash_in (content_of self.old)))) }
+        ensures value { content_of self.new ≡ content_with_field field.now number (content_of self.old) }
         ensures room { HasRoom self.old → HasRoom self.new }
     {
         match self {
@@ -104,8 +104,8 @@ impl Stored {
 
     /// Writes a counter.
     pub(crate) fn write_counter(&mut self, number: i64)
-        requires { IsTrue (is_there (counter_in (shown_value self.old))) }
-        ensures value { shown_value self.new ≡ Number number }
+        requires { IsTrue (is_there (counter_in (content_of self.old))) }
+        ensures value { content_of self.new ≡ Number number }
         ensures room { HasRoom self.new }
     {
         if let Stored::Counter(counter) = self {
@@ -121,8 +121,8 @@ impl Stored {
         has_room: bool,
     ) -> Result<(), AllocError>
         requires { IsTrue has_room → HasRoom self.old }
-        ensures ok { OnOk result (shown_value self.new ≡ content_with_field field.now number (shown_value self.old)) }
-        ensures err { OnErr result (shown_value self.new ≡ shown_value self.old) }
+        ensures ok { OnOk result (content_of self.new ≡ content_with_field field.now number (content_of self.old)) }
+        ensures err { OnErr result (content_of self.new ≡ content_of self.old) }
         ensures succeeds { IsTrue has_room → IsOk result }
         ensures room { has_room ≡ false → HasRoom self.old → HasRoom self.new }
     {
@@ -134,8 +134,8 @@ impl Stored {
 
     /// Removes a field of a hash, and says whether it was the last one.
     pub(crate) fn remove_field(&mut self, field: &Brief) -> bool
-        ensures value { shown_value self.new ≡ content_without_field field.now (shown_value self.old) }
-        ensures empty { result ≡ is_empty_hash (shown_value self.new) }
+        ensures value { content_of self.new ≡ content_without_field field.now (content_of self.old) }
+        ensures empty { result ≡ is_empty_hash (content_of self.new) }
         ensures room { HasRoom self.old → HasRoom self.new }
     {
         match self {

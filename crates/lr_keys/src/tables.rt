@@ -2,10 +2,10 @@
 ghost use Rattle.std.specs.Prelude.{◌≡◌, ℕ, List, ◌+◌, ◌<◌, ◌≤◌, None, Some, IsSome, OnOk, if◌then◌else◌};
 ghost use Rattle.std.specs.Str.{bytes_eq};
 ghost use Rattle.indexmap.specs.IndexMap.{get, index_map_len, spare, values};
-ghost use Rattle.lr_keys.specs.Kept.{SlotKept, IsRoomFor, least_of, live_slot, new_slot, shown_entries, sooner_of};
+ghost use Rattle.lr_keys.specs.Slots.{KeepsSlot, IsRoomFor, least_of, live_slot, new_slot, key_entries_of, sooner_of};
 ghost use Rattle.lr_keys.specs.KeySpace.{is_ahead};
 ghost use Rattle.std.specs.Option.{ForSome};
-ghost use Rattle.lr_keys.specs.Table.{put};
+ghost use Rattle.lr_keys.specs.Table.{with_key};
 
 use super::slot::{Slot, Spare, Stored};
 use super::value_kind::ValueKind;
@@ -16,7 +16,7 @@ use std::alloc::AllocError;
 // Takes a key out of a table, if it is to go.
 pub(crate) fn remove_if<T: Drop>(table: &mut IndexMap<Brief, T>, key: &Brief, gone: bool)
     ensures table { (q : List ℕ) → get bytes_eq table.new q
-        ≡ (if gone then put key.now None (get bytes_eq table.old) else get bytes_eq table.old) q }
+        ≡ (if gone then with_key key.now None (get bytes_eq table.old) else get bytes_eq table.old) q }
     ensures fewer { index_map_len table.new ≤ index_map_len table.old }
     ensures room { spare table.old ≤ spare table.new }
 {
@@ -29,7 +29,7 @@ pub(crate) fn remove_if<T: Drop>(table: &mut IndexMap<Brief, T>, key: &Brief, go
 pub(crate) fn take_spare(spares: &mut IndexMap<Brief, Spare>, key: &Brief) -> Spare
     requires { IsSome (get bytes_eq spares.old key.now) }
     ensures spare { get bytes_eq spares.old key.now ≡ Some result }
-    ensures spares { (q : List ℕ) → get bytes_eq spares.new q ≡ put key.now None (get bytes_eq spares.old) q }
+    ensures spares { (q : List ℕ) → get bytes_eq spares.new q ≡ with_key key.now None (get bytes_eq spares.old) q }
     ensures fewer { index_map_len spares.new + 1 ≡ index_map_len spares.old }
 {
     spares.swap_remove(key).unwrap()
@@ -38,7 +38,7 @@ pub(crate) fn take_spare(spares: &mut IndexMap<Brief, Spare>, key: &Brief) -> Sp
 // Gives up the memory that was taken for the key.
 pub(crate) fn drop_spare(spares: &mut IndexMap<Brief, Spare>, key: &Brief)
     requires { IsSome (get bytes_eq spares.old key.now) }
-    ensures spares { (q : List ℕ) → get bytes_eq spares.new q ≡ put key.now None (get bytes_eq spares.old) q }
+    ensures spares { (q : List ℕ) → get bytes_eq spares.new q ≡ with_key key.now None (get bytes_eq spares.old) q }
     ensures fewer { index_map_len spares.new + 1 ≡ index_map_len spares.old }
 {
     let _spare = take_spare(spares, key);
@@ -50,8 +50,8 @@ pub(crate) fn make_room(
     key: &Brief,
     kind: ValueKind,
 ) -> Result<(), AllocError>
-    ensures shown { shown_entries slots.new.entries ≡ shown_entries slots.old.entries }
-    ensures kept { (q : List ℕ) → SlotKept (get bytes_eq slots.old q) (get bytes_eq slots.new q) }
+    ensures key_entry_of { key_entries_of slots.new.entries ≡ key_entries_of slots.old.entries }
+    ensures kept { (q : List ℕ) → KeepsSlot (get bytes_eq slots.old q) (get bytes_eq slots.new q) }
     ensures room { OnOk result (IsRoomFor (get bytes_eq slots.new key.now) kind) }
     ensures spare { spare slots.old ≤ spare slots.new }
 {
@@ -63,8 +63,8 @@ pub(crate) fn make_room(
 
 // Makes room for a field in the hash at the key, if there is one.
 fn make_hash_room(slots: &mut IndexMap<Brief, Slot>, key: &Brief) -> Result<(), AllocError>
-    ensures shown { shown_entries slots.new.entries ≡ shown_entries slots.old.entries }
-    ensures kept { (q : List ℕ) → SlotKept (get bytes_eq slots.old q) (get bytes_eq slots.new q) }
+    ensures key_entry_of { key_entries_of slots.new.entries ≡ key_entries_of slots.old.entries }
+    ensures kept { (q : List ℕ) → KeepsSlot (get bytes_eq slots.old q) (get bytes_eq slots.new q) }
     ensures room { OnOk result (IsRoomFor (get bytes_eq slots.new key.now) ValueKind.Hash) }
     ensures spare { spare slots.old ≤ spare slots.new }
 {
@@ -78,7 +78,7 @@ fn make_hash_room(slots: &mut IndexMap<Brief, Slot>, key: &Brief) -> Result<(), 
 pub(crate) fn insert_slot(slots: &mut IndexMap<Brief, Slot>, key: &Brief, value: Stored)
     requires { 0 < spare slots.old }
     ensures slots { (q : List ℕ) → get bytes_eq slots.new q
-        ≡ put key.now (Some (new_slot value)) (get bytes_eq slots.old) q }
+        ≡ with_key key.now (Some (new_slot value)) (get bytes_eq slots.old) q }
     ensures room { spare slots.old ≤ spare slots.new + 1 }
 {
     let slot = Slot {

@@ -1,4 +1,5 @@
-use crate::{KeyFault, KeySpace, MAX_MOMENT, ValueKind};
+use crate::{KeyFault, KeySpace, ValueKind};
+use lr_limits::LAST_MOMENT;
 use lr_text::Brief;
 use std::alloc::{AllocError, Global};
 use std::test::Fail;
@@ -72,7 +73,7 @@ fn refusals(rt: HostRuntime) -> Result<(), Fail> {
 
 // Whether so much is left of two keys at a moment.
 fn are_left(keys: &mut KeySpace, moment: u64, first: (&Brief, i64), second: (&Brief, i64)) -> bool {
-    keys.advance(moment.min(MAX_MOMENT));
+    keys.advance(moment.min(LAST_MOMENT));
     keys.pttl(first.0) == first.1 && keys.pttl(second.0) == second.1
 }
 

@@ -11,9 +11,9 @@ use Rattle.lr_names.specs.Owner.{ThreadOfClient, IsOwner, owner_text, same_owner
 use Rattle.lr_names.proofs.OwnerLaws.{owner_text-injective}
 use Rattle.lr_keys.specs.FieldMap.{is_i64}
 use Rattle.lr_keys.specs.declared.fault.KeyFault.{KeyFault}
-use Rattle.lr_keys.specs.KeySpace.{Entry, field_at}
-use Rattle.lr_keys.specs.Table.{put}
-use Rattle.lr_keys.proofs.TableLaws.{bytes_eq-same, same_bytes, bytes_eq-other, put-own}
+use Rattle.lr_keys.specs.KeySpace.{KeyEntry, field_at}
+use Rattle.lr_keys.specs.Table.{with_key}
+use Rattle.lr_keys.proofs.TableLaws.{bytes_eq-same, same_bytes, bytes_eq-other, with_key-own}
 use Rattle.lr_objects.specs.declared.reply.Reply.{Reply}
 use Rattle.lr_objects.specs.declared.reply.Reply.TheVariants.{Granted, Busy, Kept, NotHeld, Renewed, Lost, TooDeep}
 use Rattle.lr_model.specs.declared.hold.Hold.{Hold}
@@ -49,7 +49,7 @@ abbrev found_if : Bool → Hold → Result (Option ℤ) KeyFault
 found_if mine hold = Ok (cond mine (Some (pos hold.count)) None)
 
 -- the field of an owner is the owner's hold count
-pub count_of-field : (moment : ℕ) (owner : ThreadOfClient) (entry : Option Entry) (held : Option Hold) (number : ℤ) → IsOwner owner → IsHeld moment entry held → field_at (owner_text owner) entry ≡ Ok (Some number) → number ≡ pos (count_of owner held)
+pub count_of-field : (moment : ℕ) (owner : ThreadOfClient) (entry : Option KeyEntry) (held : Option Hold) (number : ℤ) → IsOwner owner → IsHeld moment entry held → field_at (owner_text owner) entry ≡ Ok (Some number) → number ≡ pos (count_of owner held)
 count_of-field moment owner entry None number in_owner held found = absurd (cc (sym (ap (field_at (owner_text owner)) held.stands) ∙ found))
 count_of-field moment owner entry (Some hold) number in_owner held found =
     by (same_owner hold.owner owner) (ap (λ b. found_if b hold) (sym (bytes_eq-owner_text hold.owner owner (held.within hold refl).owner in_owner)) ∙ sym (ap (field_at (owner_text owner)) held.stands) ∙ found)
@@ -138,13 +138,13 @@ module _ (moment : ℕ) (owner : ThreadOfClient) where
       by false none = refl
 
 -- a step that leaves the keys as they are
-unchanged_step : (moment : ℕ) (keys : List ℕ → Option Entry) (key : List ℕ) (reply : Reply) (held : Option Hold) → IsHeld moment (keys key) held → IsStep keys keys key reply (unchanged reply held)
+unchanged_step : (moment : ℕ) (keys : List ℕ → Option KeyEntry) (key : List ℕ) (reply : Reply) (held : Option Hold) → IsHeld moment (keys key) held → IsStep keys keys key reply (unchanged reply held)
 unchanged_step moment keys key reply held at = record {
   answer = refl;
-  entries = sym (ap (λ o. put key o keys) (sym at.stands) ∙ put-own key keys);
+  entries = sym (ap (λ o. with_key key o keys) (sym at.stands) ∙ with_key-own key keys);
 }
 
-module _ (moment : ℕ) (owner : ThreadOfClient) (old new : List ℕ → Option Entry) (key : List ℕ) where
+module _ (moment : ℕ) (owner : ThreadOfClient) (old new : List ℕ → Option KeyEntry) (key : List ℕ) where
   -- too deep
   pub full_step : (lease : ℕ) (held : Option Hold) → IsHeld moment (old key) held → 1000000 ≤ count_of owner held → IsStep old old key TooDeep (try_lock moment owner lease held)
   full_step lease held at full = subst (IsStep old old key TooDeep) (sym (try_lock-full moment owner lease held at.within full)) (unchanged_step moment old key TooDeep held at)
@@ -159,10 +159,10 @@ module _ (moment : ℕ) (owner : ThreadOfClient) (old new : List ℕ → Option 
 
   -- what `add` promises: of a lock that nobody holds, and of one that the owner holds
   abbrev pub IsMade : ℤ → ℕ → List ℕ → Type 0
-  IsMade by lease text = old key ≡ None → new ≡ put key (Some (one_field text by (moment + lease))) old
+  IsMade by lease text = old key ≡ None → new ≡ with_key key (Some (one_field text by (moment + lease))) old
 
   abbrev pub IsAdded : ℤ → ℕ → List ℕ → Type 0
-  IsAdded by lease text = (count : ℤ) (expiry : ℕ) → old key ≡ Some (one_field text count expiry) → IsTrue (is_i64 (count +ℤ by)) → new ≡ put key (Some (one_field text (count +ℤ by) (moment + lease))) old
+  IsAdded by lease text = (count : ℤ) (expiry : ℕ) → old key ≡ Some (one_field text count expiry) → IsTrue (is_i64 (count +ℤ by)) → new ≡ with_key key (Some (one_field text (count +ℤ by) (moment + lease))) old
 
   -- the entry of the owner's hold
   own_entry : (hold : Hold) → hold.owner ≡ owner → Some (lock_entry hold) ≡ Some (one_field (owner_text owner) (pos hold.count) hold.deadline)
@@ -216,7 +216,7 @@ module _ (moment : ℕ) (owner : ThreadOfClient) (old new : List ℕ → Option 
             answer = refl;
             entries =
                 added (pos hold.count) hold.deadline (at.stands ∙ own_entry hold (same_owners hold.owner owner mine)) (fits hold.count several (at.within hold refl).most)
-                ∙ ap (λ n. put key (Some (one_field (owner_text owner) n (moment + rest))) old) (one_less hold.count several);
+                ∙ ap (λ n. with_key key (Some (one_field (owner_text owner) n (moment + rest))) old) (one_less hold.count several);
           })
       by false other = let none = ap (λ b. cond b hold.count 0) other in absurd (omega arith)
 

@@ -8,9 +8,9 @@ use Rattle.lr_names.specs.Key.{key_text}
 use Rattle.lr_names.specs.Name.{IsName}
 use Rattle.lr_names.specs.Owner.{ThreadOfClient, IsOwner, same_owner}
 use Rattle.lr_names.proofs.KeyLaws.{key_text-injective}
-use Rattle.lr_keys.specs.KeySpace.{Entry, Keys, entry_at, live_entry, live_entries}
-use Rattle.lr_keys.specs.Table.{put}
-use Rattle.lr_keys.proofs.TableLaws.{bytes_eq-same, same_bytes, put-same, put-other}
+use Rattle.lr_keys.specs.KeySpace.{KeyEntry, Keys, entry_at, live_entry, live_entries}
+use Rattle.lr_keys.specs.Table.{with_key}
+use Rattle.lr_keys.proofs.TableLaws.{bytes_eq-same, same_bytes, with_key-same, with_key-other}
 use Rattle.lr_objects.specs.declared.op.Op.{Op}
 use Rattle.lr_objects.specs.declared.op.Op.TheVariants.{LockTry, LockUnlock, LockRenew, LockForce}
 use Rattle.lr_objects.specs.declared.reply.Reply.{Reply}
@@ -148,7 +148,7 @@ live_hold-good moment (Some hold) good =
     ap (λ (b : Bool). if b then Some hold else None) live
 
 -- what is there at the moment was there
-IsSome-live : (moment : ℕ) (entry : Option Entry) → IsSome (live_entry moment entry) → IsSome entry
+IsSome-live : (moment : ℕ) (entry : Option KeyEntry) → IsSome (live_entry moment entry) → IsSome entry
 IsSome-live moment None there = there
 IsSome-live moment (Some entry) there = refl
 
@@ -188,27 +188,27 @@ module _ (old : Keys) (objects : Objects) (stands : StandsFor old objects) (mome
   pub post_stands : (reply : Reply) → reply ≡ reply_of objects moment op → (if is_freed reply then Some (lock_post (name_of op)) else None) ≡ post_of objects moment op
   post_stands reply is = ap (λ (b : Bool). if b then Some (lock_post (name_of op)) else None) (ap is_freed is ∙ sym (posts-freed moment op the_hold))
 
-  module _ (new : Keys) (now : new.moment ≡ moment) (in_time : moment ≤ last_moment) (entries : entry_at new ≡ put the_key (option_map lock_entry (outcome_of objects moment op).object) (live_entries moment (entry_at old))) where
+  module _ (new : Keys) (now : new.moment ≡ moment) (in_time : moment ≤ last_moment) (entries : entry_at new ≡ with_key the_key (option_map lock_entry (outcome_of objects moment op).object) (live_entries moment (entry_at old))) where
     abbrev the_object : Option Hold
     the_object = (outcome_of objects moment op).object
 
     good_object : IsGood moment the_object
     good_object = good_after moment in_time op the_hold call good_hold
 
-    at_key : (q : List ℕ) → entry_at new q ≡ put the_key (option_map lock_entry the_object) (live_entries moment (entry_at old)) q
-    at_key q = ap (λ (f : List ℕ → Option Entry). f q) entries
+    at_key : (q : List ℕ) → entry_at new q ≡ with_key the_key (option_map lock_entry the_object) (live_entries moment (entry_at old)) q
+    at_key q = ap (λ (f : List ℕ → Option KeyEntry). f q) entries
 
     locks_at_moment : (name : List ℕ) → IsName name → entry_at new (key_text Lock name) ≡ option_map lock_entry (live_hold moment ((objects_after objects moment op).mutexes name))
     locks_at_moment name named = at_key (key_text Lock name) ∙ by (bytes_eq the_name name) refl
       where
         by : (b : Bool) → bytes_eq the_name name ≡ b
-            → put the_key (option_map lock_entry the_object) (live_entries moment (entry_at old)) (key_text Lock name) ≡ option_map lock_entry (live_hold moment (if b then the_object else objects.mutexes name))
+            → with_key the_key (option_map lock_entry the_object) (live_entries moment (entry_at old)) (key_text Lock name) ≡ option_map lock_entry (live_hold moment (if b then the_object else objects.mutexes name))
         by true here =
-            ap (λ (n : List ℕ). put the_key (option_map lock_entry the_object) (live_entries moment (entry_at old)) (key_text Lock n)) (sym (same_bytes the_name name here))
-            ∙ put-same the_key (option_map lock_entry the_object) (live_entries moment (entry_at old))
+            ap (λ (n : List ℕ). with_key the_key (option_map lock_entry the_object) (live_entries moment (entry_at old)) (key_text Lock n)) (sym (same_bytes the_name name here))
+            ∙ with_key-same the_key (option_map lock_entry the_object) (live_entries moment (entry_at old))
             ∙ ap (option_map lock_entry) (sym (live_hold-good moment the_object good_object))
         by false there =
-            put-other the_key (option_map lock_entry the_object) (live_entries moment (entry_at old)) (key_text Lock name)
+            with_key-other the_key (option_map lock_entry the_object) (live_entries moment (entry_at old)) (key_text Lock name)
             (λ same. let one = (key_text-injective Lock Lock the_name name same).1 in absurd (cc (sym there ∙ ap (bytes_eq the_name) (sym one) ∙ bytes_eq-same the_name)))
             ∙ live_at name named
 
@@ -236,8 +236,8 @@ module _ (old : Keys) (objects : Objects) (stands : StandsFor old objects) (mome
 -- where there is no key there is no object
 pub no_keys_stand : (keys : Keys) → entry_at keys ≡ (λ _. None) → StandsFor keys no_objects
 no_keys_stand keys none = record {
-  locks = λ name named. ap (λ (f : List ℕ → Option Entry). f (key_text Lock name)) none;
-  nothing_else = λ key there. absurd (cc (sym (ap (λ (f : List ℕ → Option Entry). is_some (f key)) none) ∙ there));
+  locks = λ name named. ap (λ (f : List ℕ → Option KeyEntry). f (key_text Lock name)) none;
+  nothing_else = λ key there. absurd (cc (sym (ap (λ (f : List ℕ → Option KeyEntry). is_some (f key)) none) ∙ there));
   bounds = λ name hold at. absurd (cc at);
 }
 
@@ -251,4 +251,4 @@ stands_later old new objects stands later entries = record {
 }
   where
     at_key : (key : List ℕ) → entry_at new key ≡ live_entry new.moment (entry_at old key)
-    at_key key = ap (λ (f : List ℕ → Option Entry). f key) entries
+    at_key key = ap (λ (f : List ℕ → Option KeyEntry). f key) entries

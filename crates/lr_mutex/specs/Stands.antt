@@ -4,18 +4,18 @@ use Rattle.lr_names.specs.Name.{IsName}
 use Rattle.lr_names.specs.Owner.{IsOwner, owner_text}
 use Rattle.lr_names.specs.Key.{key_text}
 use Rattle.lr_names.specs.declared.part.Part.TheVariants.{Lock}
-use Rattle.lr_keys.specs.KeySpace.{Entry, Fields, Keys, entry_at}
+use Rattle.lr_keys.specs.KeySpace.{KeyEntry, Fields, Keys, entry_at}
 use Rattle.lr_model.specs.declared.hold.Hold.{Hold}
 use Rattle.lr_model.specs.Mutex.{live_hold}
 use Rattle.lr_model.specs.Answer.{Objects}
 
 -- a hash with one field, gone at the expiry
-abbrev pub one_field : List ℕ → ℤ → ℕ → Entry
+abbrev pub one_field : List ℕ → ℤ → ℕ → KeyEntry
 one_field field number expiry = record { value = Fields ((field, number) ∷ []); expiry = Some expiry }
 
 -- The entry of a lock that is held so, as Redisson keeps it: a hash from the owner's text to the hold count, gone at the
 -- hold's deadline.
-abbrev pub lock_entry : Hold → Entry
+abbrev pub lock_entry : Hold → KeyEntry
 lock_entry hold = one_field (owner_text hold.owner) (pos hold.count) hold.deadline
 
 -- a hold as a lock can have it: of a thread of a client, 1 to a million times, with a deadline of at most 63 bits

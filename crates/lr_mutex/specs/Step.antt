@@ -3,8 +3,8 @@ use Rattle.std.specs.Prelude.{◌≡◌, ◌<◌, ℕ, List, Bool, true, false, 
 use Rattle.std.specs.Option.{ForSome}
 use Rattle.lr_names.specs.Name.{IsName}
 use Rattle.lr_names.specs.Owner.{ThreadOfClient, IsOwner, same_owner}
-use Rattle.lr_keys.specs.KeySpace.{Entry}
-use Rattle.lr_keys.specs.Table.{put}
+use Rattle.lr_keys.specs.KeySpace.{KeyEntry}
+use Rattle.lr_keys.specs.Table.{with_key}
 use Rattle.lr_objects.specs.declared.op.Op.{Op}
 use Rattle.lr_objects.specs.declared.op.Op.TheVariants.{LockTry, LockUnlock, LockRenew, LockForce}
 use Rattle.lr_objects.specs.declared.reply.Reply.{Reply}
@@ -15,15 +15,15 @@ use Rattle.lr_model.specs.Mutex.{Outcome}
 use Rattle.lr_mutex.specs.Stands.{IsHold, lock_entry}
 
 -- at the moment the entry is that of a lock that is held so, or not at all
-pub record IsHeld (moment : ℕ) (entry : Option Entry) (held : Option Hold) : Type 0 where
+pub record IsHeld (moment : ℕ) (entry : Option KeyEntry) (held : Option Hold) : Type 0 where
   pub stands : entry ≡ option_map lock_entry held
   pub within : ForSome held IsHold
   pub live : ForSome held (λ hold. moment < hold.deadline)
 
 -- the reply is that of the outcome, and of the keys one is changed: it holds the lock afterwards
-pub record IsStep (old new : List ℕ → Option Entry) (key : List ℕ) (reply : Reply) (outcome : Outcome (Option Hold)) : Type 0 where
+pub record IsStep (old new : List ℕ → Option KeyEntry) (key : List ℕ) (reply : Reply) (outcome : Outcome (Option Hold)) : Type 0 where
   pub answer : reply ≡ outcome.reply
-  pub entries : new ≡ put key (option_map lock_entry outcome.object) old
+  pub entries : new ≡ with_key key (option_map lock_entry outcome.object) old
 
 -- how many times the owner holds the lock
 abbrev pub count_of : ThreadOfClient → Option Hold → ℕ
@@ -31,7 +31,7 @@ count_of owner None = 0
 count_of owner (Some hold) = if same_owner hold.owner owner then hold.count else 0
 
 -- whether a call makes the lock's key where this is there: only that takes memory
-abbrev pub makes_lock : Op → Option Entry → Bool
+abbrev pub makes_lock : Op → Option KeyEntry → Bool
 makes_lock (LockTry name owner lease) entry = is_lease lease && is_none entry
 makes_lock (LockUnlock name owner rest) entry = false
 makes_lock (LockRenew name owner lease) entry = false

@@ -14,7 +14,8 @@ ghost use Rattle.lr_mutex.specs.Step.{IsHeld, IsStep, IsCall, makes_lock};
 
 use crate::posts::post_after;
 use crate::steps::{force, give_back, renew, take};
-use lr_keys::{KeySpace, MAX_LEASE, ValueKind};
+use lr_keys::{KeySpace, ValueKind};
+use lr_limits::LONGEST_LEASE;
 use lr_names::{Name, Owner, Part, Post, key};
 use lr_objects::{Op, Reply};
 use lr_text::Brief;
@@ -24,7 +25,7 @@ use std::alloc::{AllocError, Global};
 fn is_lease(millis: u64) -> bool
     ensures { result ≡ is_lease millis }
 {
-    1 <= millis && millis <= MAX_LEASE
+    1 <= millis && millis <= LONGEST_LEASE
 }
 
 // Whether the key will be there at the moment.

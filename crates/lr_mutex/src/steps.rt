@@ -2,7 +2,7 @@
 ghost use Rattle.std.specs.Prelude.{◌≡◌, ◌+◌, ◌-◌, ℕ, ℤ, pos, ◌+ℤ◌, Option, IsTrue};
 ghost use Rattle.lr_keys.specs.FieldMap.{is_i64};
 ghost use Rattle.lr_keys.specs.KeySpace.{IsPrepared, entry_at};
-ghost use Rattle.lr_keys.specs.Table.{put};
+ghost use Rattle.lr_keys.specs.Table.{with_key};
 ghost use Rattle.lr_model.specs.declared.hold.Hold.{Hold};
 ghost use Rattle.lr_model.specs.Moment.{is_lease};
 ghost use Rattle.lr_model.specs.Mutex.{try_lock, unlock, renew_lock, force_lock};
@@ -44,11 +44,11 @@ fn add(alloc: Global, keys: &mut KeySpace, key: &Brief, owner: &Brief, by: i64, 
     requires lease { IsTrue (is_lease lease) }
     ensures made { IsPrepared keys.old key.now ValueKind.Hash owner.now → entry_at keys.old key.now ≡ None
         → entry_at keys.new
-        ≡ put key.now (Some (one_field owner.now by (keys.old.moment + lease))) (entry_at keys.old) }
+        ≡ with_key key.now (Some (one_field owner.now by (keys.old.moment + lease))) (entry_at keys.old) }
     ensures added { (count : ℤ) (expiry : ℕ)
         → entry_at keys.old key.now ≡ Some (one_field owner.now count expiry) → IsTrue (is_i64 (count +ℤ by))
         → entry_at keys.new
-        ≡ put key.now (Some (one_field owner.now (count +ℤ by) (keys.old.moment + lease))) (entry_at keys.old) }
+        ≡ with_key key.now (Some (one_field owner.now (count +ℤ by) (keys.old.moment + lease))) (entry_at keys.old) }
     ensures moment { keys.new.moment ≡ keys.old.moment }
 {
     // It can't fail: the field is there, or it was prepared.

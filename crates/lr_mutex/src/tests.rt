@@ -1,5 +1,6 @@
 use crate::run;
-use lr_keys::{KeySpace, MAX_MOMENT};
+use lr_keys::KeySpace;
+use lr_limits::LAST_MOMENT;
 use lr_names::{Name, Owner, Part, key};
 use lr_objects::{Op, Remaining, Reply};
 use lr_text::Brief;
@@ -18,7 +19,7 @@ fn answers(
     op: &Op,
     wanted: (Reply, bool),
 ) -> Result<bool, AllocError> {
-    let (reply, post) = run(alloc, keys, moment.min(MAX_MOMENT), op)?;
+    let (reply, post) = run(alloc, keys, moment.min(LAST_MOMENT), op)?;
     Ok(reply == wanted.0 && post.is_some() == wanted.1)
 }
 

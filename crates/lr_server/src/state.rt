@@ -14,7 +14,8 @@ use crate::change::{act_of, change};
 use crate::fault::StepFault;
 use lr_commands::Request;
 use lr_history::{Act, Entry, History, MOST_ENTRIES};
-use lr_keys::{KeySpace, MAX_MOMENT};
+use lr_keys::KeySpace;
+use lr_limits::LAST_MOMENT;
 use lr_names::Channel;
 use lr_pubsub::{Board, Pushes};
 use std::alloc::{AllocError, Global};
@@ -244,7 +245,7 @@ impl ServerState {
         ensures value { result ≡ later (state_of self.now).moment reading }
         ensures early { result ≤ last_moment }
     {
-        self.moment.max(reading.min(MAX_MOMENT))
+        self.moment.max(reading.min(LAST_MOMENT))
     }
 
     // Whether a call comes from a connection that only subscribes.

@@ -1,13 +1,13 @@
 use Rattle.std.proofs.Common.{sym, ap, ◌∙◌}
 use Rattle.std.specs.Str.{bytes_eq}
 use Rattle.lr_keys.specs.declared.slot.Slot.{Slot}
-use Rattle.lr_keys.specs.Kept.{shown_entries}
-use Rattle.lr_keys.proofs.KeptLemmas.{shown_entries-set_value}
+use Rattle.lr_keys.specs.Slots.{key_entries_of}
+use Rattle.lr_keys.proofs.SlotLemmas.{key_entries_of-set_value}
 use Rattle.lr_keys.proofs.tables.make_hash_room.Goals as goal
 
-pub returns-in-Some-clause-shown : goal.returns-in-Some-clause-shown
-returns-in-Some-clause-shown c =
+pub returns-in-Some-clause-key_entry_of : goal.returns-in-Some-clause-key_entry_of
+returns-in-Some-clause-key_entry_of c =
     let u = c.in-Some.slot.now in
     let w : Slot = record u { value = c.make_room.new.self } in
-    ap shown_entries (c.get_mut.follows.holds w).0
-    ∙ shown_entries-set_value (bytes_eq c.args.key.now) c.args.slots.now.entries u w (sym c.in-Some.ensures.value) (ap (λ v. record { value = v; expiry = u.expiry }) c.make_room.ensures.value)
+    ap key_entries_of (c.get_mut.follows.holds w).0
+    ∙ key_entries_of-set_value (bytes_eq c.args.key.now) c.args.slots.now.entries u w (sym c.in-Some.ensures.value) (ap (λ v. record { value = v; expiry = u.expiry }) c.make_room.ensures.value)

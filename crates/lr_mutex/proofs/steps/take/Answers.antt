@@ -1,12 +1,12 @@
 use Rattle.std.proofs.Common.{◌≡◌, Option, None, is_some, false, sym, subst, ◌∙◌, arith}
-use Rattle.lr_keys.specs.KeySpace.{Entry, IsPrepared, entry_at}
+use Rattle.lr_keys.specs.KeySpace.{KeyEntry, IsPrepared, entry_at}
 use Rattle.lr_keys.specs.declared.value_kind.ValueKind.TheVariants.{Hash}
 use Rattle.lr_mutex.specs.Step.{count_of}
 use Rattle.lr_mutex.proofs.HoldLemmas.{count_of-few, count-most, count-fewer, count-zero, count-none, full_step, busy_step, granted_step}
 use Rattle.lr_mutex.proofs.steps.take.Goals as goal
 use Rattle.lr_mutex.proofs.steps.take.Goals.{else-count-eq0-via-then-count-eq0+else-exists, else-count-eq0-via-else-count-eq0}
 
-none-from_absent : (o : Option Entry) → is_some o ≡ false → o ≡ None
+none-from_absent : (o : Option KeyEntry) → is_some o ≡ false → o ≡ None
 none-from_absent o absent = grind arith
 
 pub returns-then-count-ge-MOST_HOLDS-clause-step : goal.returns-then-count-ge-MOST_HOLDS-clause-step

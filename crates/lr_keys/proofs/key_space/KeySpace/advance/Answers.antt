@@ -1,17 +1,17 @@
 use Rattle.std.proofs.Common.{◌≤◌, max, refl, ap, ◌∙◌, arith}
-use Rattle.lr_keys.specs.declared.TheConstants.{MAX_MOMENT}
+use Rattle.lr_limits.specs.Limits.{last_moment}
 use Rattle.lr_keys.specs.declared.key_space.KeySpace.TheInside.{Inside}
 use Rattle.lr_keys.specs.KeySpace.{entry_at, live_entries}
-use Rattle.lr_keys.proofs.KeptLemmas.{IsSound-shown, plan_at-same}
-use Rattle.lr_keys.proofs.LiveLemmas.{IsKept-live, entry_at-live, live_before_bound}
+use Rattle.lr_keys.proofs.SlotLemmas.{AreLive-keys_of, plan_at-same}
+use Rattle.lr_keys.proofs.LiveLemmas.{IsKeySpace-live, entry_at-live, live_before_bound}
 use Rattle.lr_keys.proofs.key_space.KeySpace.advance.Goals as goal
 
 pub invariant_of-self : goal.invariant_of-self
 invariant_of-self c =
     let inside = c.self.inside in
     let after : Inside = record inside { moment = c.max-moment.result } in
-    let within : inside.moment ≤ MAX_MOMENT = c.self.invariant.moment in
-    IsKept-live inside after c.self.invariant (omega arith) refl (live_before_bound inside c.max-moment.result c.self.invariant c.if-moment-self.true)
+    let within : inside.moment ≤ last_moment = c.self.invariant.moment in
+    IsKeySpace-live inside after c.self.invariant (omega arith) refl (live_before_bound inside c.max-moment.result c.self.invariant c.if-moment-self.true)
     (λ q slot at. (c.self.invariant.slots q slot at).bound) (omega arith)
 
 pub returns-then-moment-self-clause-entries : goal.returns-then-moment-self-clause-entries
@@ -30,8 +30,8 @@ invariant_of-self-2 c =
     let inside = c.self.inside in
     let gone = c.remove_gone-self-inside in
     let after : Inside = record inside { moment = c.max-moment.result; least_expiry = gone.result; slots = gone.new.slots } in
-    let within : inside.moment ≤ MAX_MOMENT = c.self.invariant.moment in
-    IsKept-live inside after c.self.invariant (omega arith) refl gone.ensures.slots gone.ensures.bound gone.ensures.room
+    let within : inside.moment ≤ last_moment = c.self.invariant.moment in
+    IsKeySpace-live inside after c.self.invariant (omega arith) refl gone.ensures.slots gone.ensures.bound gone.ensures.room
 
 pub returns-clause-entries : goal.returns-clause-entries
 returns-clause-entries c =
@@ -47,10 +47,10 @@ returns-clause-prepared c =
     let gone = c.remove_gone-self-inside in
     plan_at-same c.self.inside (record c.self.inside { moment = c.max-moment.result; least_expiry = gone.result; slots = gone.new.slots }) c.args.self.now c.self.view_is refl
 
-pub returns-then-moment-self-clause-sound : goal.returns-then-moment-self-clause-sound
-returns-then-moment-self-clause-sound c = IsSound-shown (record c.self.inside { moment = c.max-moment.result }) (invariant_of-self c)
+pub returns-then-moment-self-clause-live : goal.returns-then-moment-self-clause-live
+returns-then-moment-self-clause-live c = AreLive-keys_of (record c.self.inside { moment = c.max-moment.result }) (invariant_of-self c)
 
-pub returns-clause-sound : goal.returns-clause-sound
-returns-clause-sound c =
+pub returns-clause-live : goal.returns-clause-live
+returns-clause-live c =
     let gone = c.remove_gone-self-inside in
-    IsSound-shown (record c.self.inside { moment = c.max-moment.result; least_expiry = gone.result; slots = gone.new.slots }) (invariant_of-self-2 c)
+    AreLive-keys_of (record c.self.inside { moment = c.max-moment.result; least_expiry = gone.result; slots = gone.new.slots }) (invariant_of-self-2 c)

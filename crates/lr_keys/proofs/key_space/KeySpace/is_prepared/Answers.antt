@@ -1,6 +1,6 @@
 use Rattle.std.proofs.Common.{sym, ap, ◌∙◌, Some, None}
 use Rattle.lr_keys.specs.KeySpace.{is_plan_for}
-use Rattle.lr_keys.proofs.KeptLemmas.{plan_at-read}
+use Rattle.lr_keys.proofs.SlotLemmas.{plan_at-read}
 use Rattle.lr_keys.proofs.key_space.KeySpace.is_prepared.Goals as goal
 
 pub returns-in-Some : goal.returns-in-Some

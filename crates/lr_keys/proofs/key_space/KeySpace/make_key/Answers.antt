@@ -4,28 +4,28 @@ use Rattle.std.specs.Map.{lookup}
 use Rattle.indexmap.specs.IndexMap.{get}
 use Rattle.lr_keys.specs.declared.key_space.KeySpace.TheInside.{Inside}
 use Rattle.lr_keys.specs.KeySpace.{IsLive}
-use Rattle.lr_keys.specs.Kept.{new_slot, shown}
-use Rattle.lr_keys.specs.Table.{put}
-use Rattle.lr_keys.proofs.KeptLemmas.{IsKept-grown, IsKept-roomier, IsRoomFor-any, IsSoundSlot-new, entry_at-set, plan_at-same}
+use Rattle.lr_keys.specs.Slots.{new_slot, key_entry_of}
+use Rattle.lr_keys.specs.Table.{with_key}
+use Rattle.lr_keys.proofs.SlotLemmas.{IsKeySpace-grown, IsKeySpace-roomier, IsRoomFor-any, IsLiveSlot-new, entry_at-set, plan_at-same}
 use Rattle.lr_keys.proofs.key_space.KeySpace.make_key.Goals as goal
 
 pub invariant_of-self : goal.invariant_of-self
-invariant_of-self c = IsKept-roomier c.self.inside (record c.self.inside { slots = c.reserve.new.self }) c.self.invariant refl refl refl c.reserve.ensures.entries c.reserve.ensures.room.0
+invariant_of-self c = IsKeySpace-roomier c.self.inside (record c.self.inside { slots = c.reserve.new.self }) c.self.invariant refl refl refl c.reserve.ensures.entries c.reserve.ensures.room.0
 
 -- the fields after the call
 abbrev after : goal.After-insert_slot → Inside
 after c = record c.self.inside { slots = c.insert_slot.new.slots }
 
-sets : (c : goal.After-insert_slot) (q : List ℕ) → get bytes_eq (after c).slots q ≡ put c.args.key.now (Some (new_slot c.args.value)) (get bytes_eq c.self.inside.slots) q
-sets c q = c.insert_slot.ensures.slots q ∙ ap (λ es. put c.args.key.now (Some (new_slot c.args.value)) (λ k. lookup (bytes_eq k) es) q) c.reserve.ensures.entries
+sets : (c : goal.After-insert_slot) (q : List ℕ) → get bytes_eq (after c).slots q ≡ with_key c.args.key.now (Some (new_slot c.args.value)) (get bytes_eq c.self.inside.slots) q
+sets c q = c.insert_slot.ensures.slots q ∙ ap (λ es. with_key c.args.key.now (Some (new_slot c.args.value)) (λ k. lookup (bytes_eq k) es) q) c.reserve.ensures.entries
 
 pub invariant_of-self-2 : goal.invariant_of-self-2
 invariant_of-self-2 c =
     let inside = c.self.inside in
-    let live = subst (λ (m : ℕ). IsLive m (shown (new_slot c.args.value))) (sym (ap (λ k. k.moment) c.self.view_is)) c.requires.live in
-    IsKept-grown inside (after c) c.args.key.now (new_slot c.args.value) false c.self.invariant refl refl (sets c) (λ q. refl)
+    let live = subst (λ (m : ℕ). IsLive m (key_entry_of (new_slot c.args.value))) (sym (ap (λ k. k.moment) c.self.view_is)) c.requires.live in
+    IsKeySpace-grown inside (after c) c.args.key.now (new_slot c.args.value) false c.self.invariant refl refl (sets c) (λ q. refl)
     (omega (arith, c.in_ok-reserve.ensures.ok, c.insert_slot.ensures.room))
-    (IsSoundSlot-new inside.moment inside.least_expiry c.args.value live)
+    (IsLiveSlot-new inside.moment inside.least_expiry c.args.value live)
     (λ unspent kind room. IsRoomFor-any (new_slot c.args.value) c.requires.room kind)
 
 pub returns-clause-entry : goal.returns-clause-entry

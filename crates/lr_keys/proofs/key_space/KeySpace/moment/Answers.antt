@@ -1,7 +1,7 @@
 use Rattle.std.proofs.Common.{subst}
-use Rattle.lr_keys.specs.KeySpace.{IsSound}
-use Rattle.lr_keys.proofs.KeptLemmas.{IsSound-shown}
+use Rattle.lr_keys.specs.KeySpace.{AreLive}
+use Rattle.lr_keys.proofs.SlotLemmas.{AreLive-keys_of}
 use Rattle.lr_keys.proofs.key_space.KeySpace.moment.Goals as goal
 
-pub returns-clause-sound : goal.returns-clause-sound
-returns-clause-sound c = subst IsSound c.self.view_is (IsSound-shown c.self.inside c.self.invariant)
+pub returns-clause-live : goal.returns-clause-live
+returns-clause-live c = subst AreLive c.self.view_is (AreLive-keys_of c.self.inside c.self.invariant)

@@ -1,5 +1,5 @@
 use Rattle.lr_keys.specs.declared.key_space.KeySpace.TheInside.{Inside}
-use Rattle.lr_keys.proofs.KeptLemmas.{entry_at-empty, plan_at-empty}
+use Rattle.lr_keys.proofs.SlotLemmas.{entry_at-empty, plan_at-empty}
 use Rattle.lr_keys.proofs.key_space.KeySpace.new.Goals as goal
 
 -- the fields of the new key space

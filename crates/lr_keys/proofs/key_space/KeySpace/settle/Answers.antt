@@ -1,6 +1,6 @@
 use Rattle.std.proofs.Common.{refl}
 use Rattle.lr_keys.specs.declared.key_space.KeySpace.TheInside.{Inside}
-use Rattle.lr_keys.proofs.KeptLemmas.{entry_at-same, plan_at-empty}
+use Rattle.lr_keys.proofs.SlotLemmas.{entry_at-same, plan_at-empty}
 use Rattle.lr_keys.proofs.key_space.KeySpace.settle.Goals as goal
 
 -- the fields after the call

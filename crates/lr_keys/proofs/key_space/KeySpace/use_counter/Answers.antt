@@ -4,10 +4,10 @@ use Rattle.lr_keys.specs.declared.key_space.KeySpace.TheInside.{Inside}
 use Rattle.lr_keys.specs.declared.slot.Slot.{Slot}
 use Rattle.lr_keys.specs.declared.slot.Stored.TheVariants.{Counter}
 use Rattle.lr_keys.specs.declared.value_kind.ValueKind.TheVariants.{Counter as CounterKind}
-use Rattle.lr_keys.specs.KeySpace.{Number, Entry, entry_at}
-use Rattle.lr_keys.specs.Kept.{new_slot}
-use Rattle.lr_keys.specs.Table.{put}
-use Rattle.lr_keys.proofs.KeptLemmas.{IsKept-grown, IsLive-counter, IsSome-planned, IsSoundSlot-new, entry_at-set, plan_at-spent}
+use Rattle.lr_keys.specs.KeySpace.{Number, KeyEntry, entry_at}
+use Rattle.lr_keys.specs.Slots.{new_slot}
+use Rattle.lr_keys.specs.Table.{with_key}
+use Rattle.lr_keys.proofs.SlotLemmas.{IsKeySpace-grown, IsLive-counter, IsSome-planned, IsLiveSlot-new, entry_at-set, plan_at-spent}
 use Rattle.lr_keys.proofs.key_space.KeySpace.use_counter.Goals as goal
 
 pub drop_spare-requires : goal.drop_spare-requires
@@ -23,15 +23,15 @@ after c = record c.self.inside { slots = c.insert_slot.new.slots; spares = c.dro
 pub invariant_of-self : goal.invariant_of-self
 invariant_of-self c =
     let inside = c.self.inside in
-    IsKept-grown inside (after c) c.args.key.now (slot_after c) true c.self.invariant refl refl c.insert_slot.ensures.slots c.drop_spare.ensures.spares
+    IsKeySpace-grown inside (after c) c.args.key.now (slot_after c) true c.self.invariant refl refl c.insert_slot.ensures.slots c.drop_spare.ensures.spares
     (omega (arith, c.self.invariant.room, c.drop_spare.ensures.fewer, c.insert_slot.ensures.room))
-    (IsSoundSlot-new inside.moment inside.least_expiry (slot_after c).value (IsLive-counter inside.moment _))
+    (IsLiveSlot-new inside.moment inside.least_expiry (slot_after c).value (IsLive-counter inside.moment _))
     (λ unspent kind room. absurd (cc unspent))
 
 pub returns-clause-entry : goal.returns-clause-entry
 returns-clause-entry c =
     entry_at-set c.self.inside (after c) c.args.self.now c.args.key.now (Some (slot_after c)) c.self.view_is c.insert_slot.ensures.slots
-    ∙ ap (λ n. put {X = Entry} c.args.key.now (Some (record { value = Number n; expiry = None })) (entry_at c.args.self.now)) (to_z-of_z w64 c.args.number c.ranges.number)
+    ∙ ap (λ n. with_key {X = KeyEntry} c.args.key.now (Some (record { value = Number n; expiry = None })) (entry_at c.args.self.now)) (to_z-of_z w64 c.args.number c.ranges.number)
 
 pub returns-clause-prepared : goal.returns-clause-prepared
 returns-clause-prepared c = plan_at-spent c.self.inside (after c) c.args.self.now c.args.key.now true c.self.view_is c.drop_spare.ensures.spares

@@ -5,10 +5,10 @@ use Rattle.lr_keys.specs.declared.slot.Slot.{Slot}
 use Rattle.lr_keys.specs.declared.slot.Stored.TheVariants.{Hash}
 use Rattle.lr_keys.specs.declared.value_kind.ValueKind.TheVariants.{Hash as HashKind}
 use Rattle.lr_keys.specs.FieldMap.{with_field}
-use Rattle.lr_keys.specs.KeySpace.{Fields, Entry, entry_at}
-use Rattle.lr_keys.specs.Kept.{new_slot}
-use Rattle.lr_keys.specs.Table.{put}
-use Rattle.lr_keys.proofs.KeptLemmas.{IsKept-grown, IsLive-one_field, IsSome-planned, IsSoundSlot-new, IsSpare-planned, entry_at-set, plan_at-spent}
+use Rattle.lr_keys.specs.KeySpace.{Fields, KeyEntry, entry_at}
+use Rattle.lr_keys.specs.Slots.{new_slot}
+use Rattle.lr_keys.specs.Table.{with_key}
+use Rattle.lr_keys.proofs.SlotLemmas.{IsKeySpace-grown, IsLive-one_field, IsSome-planned, IsLiveSlot-new, IsSpare-planned, entry_at-set, plan_at-spent}
 use Rattle.lr_keys.proofs.key_space.KeySpace.use_hash.Goals as goal
 
 pub take_spare-hash-requires : goal.take_spare-hash-requires
@@ -35,15 +35,15 @@ one c =
 pub invariant_of-self : goal.invariant_of-self
 invariant_of-self c =
     let inside = c.self.inside in
-    IsKept-grown inside (after c) c.args.key.now (slot_after c) true c.self.invariant refl refl c.insert_slot.ensures.slots c.take_spare-hash.ensures.spares
+    IsKeySpace-grown inside (after c) c.args.key.now (slot_after c) true c.self.invariant refl refl c.insert_slot.ensures.slots c.take_spare-hash.ensures.spares
     (omega (arith, c.self.invariant.room, c.take_spare-hash.ensures.fewer, c.insert_slot.ensures.room))
-    (IsSoundSlot-new inside.moment inside.least_expiry (Hash c.push.new.self) (IsLive-one_field inside.moment c.push.new.self.pairs (c.args.field.now, c.args.number) (one c)))
+    (IsLiveSlot-new inside.moment inside.least_expiry (Hash c.push.new.self) (IsLive-one_field inside.moment c.push.new.self.pairs (c.args.field.now, c.args.number) (one c)))
     (λ unspent kind room. absurd (cc unspent))
 
 pub returns-clause-entry : goal.returns-clause-entry
 returns-clause-entry c =
     entry_at-set c.self.inside (after c) c.args.self.now c.args.key.now (Some (slot_after c)) c.self.view_is c.insert_slot.ensures.slots
-    ∙ ap (λ ps. put {X = Entry} c.args.key.now (Some (record { value = Fields ps; expiry = None })) (entry_at c.args.self.now)) (one c)
+    ∙ ap (λ ps. with_key {X = KeyEntry} c.args.key.now (Some (record { value = Fields ps; expiry = None })) (entry_at c.args.self.now)) (one c)
 
 pub returns-clause-prepared : goal.returns-clause-prepared
 returns-clause-prepared c = plan_at-spent c.self.inside (after c) c.args.self.now c.args.key.now true c.self.view_is c.take_spare-hash.ensures.spares

@@ -5,10 +5,10 @@ use Rattle.std.specs.Str.{bytes_eq}
 use Rattle.indexmap.specs.IndexMap.{get}
 use Rattle.lr_keys.specs.declared.key_space.KeySpace.TheInside.{Inside}
 use Rattle.lr_keys.specs.declared.slot.Slot.{Slot}
-use Rattle.lr_keys.specs.KeySpace.{Number, Entry, entry_with_number, is_there, counter_at}
-use Rattle.lr_keys.specs.Table.{put}
-use Rattle.lr_keys.specs.Kept.{IsSoundSlot, shown_value}
-use Rattle.lr_keys.proofs.KeptLemmas.{ForSome-some, IsKept-set, IsRoomFor-some, IsSome-lent, IsSome-counter, IsSoundSlot-counter, entry_at-changed, entry_at-read, plan_at-same, sets_written}
+use Rattle.lr_keys.specs.KeySpace.{Number, KeyEntry, entry_with_number, is_there, counter_at}
+use Rattle.lr_keys.specs.Table.{with_key}
+use Rattle.lr_keys.specs.Slots.{IsLiveSlot, content_of}
+use Rattle.lr_keys.proofs.SlotLemmas.{ForSome-some, IsKeySpace-set, IsRoomFor-some, IsSome-lent, IsSome-counter, IsLiveSlot-counter, entry_at-changed, entry_at-read, plan_at-same, sets_written}
 use Rattle.lr_keys.proofs.key_space.KeySpace.write_counter.Goals as goal
 
 pub unwrap-slot-requires : goal.unwrap-slot-requires
@@ -26,26 +26,26 @@ after c = record c.self.inside { slots = c.get_mut.follows.lender (slot_after c)
 found : (c : goal.After-self-1) → Some c.unwrap-slot.result.now ≡ get bytes_eq c.self.inside.slots c.args.key.now
 found c = sym (ap option_copied_mut c.unwrap-slot.ensures) ∙ c.get_mut.ensures.value
 
-sets : (c : goal.After-self-1) (q : List ℕ) → get bytes_eq (after c).slots q ≡ put c.args.key.now (Some (slot_after c)) (get bytes_eq c.self.inside.slots) q
+sets : (c : goal.After-self-1) (q : List ℕ) → get bytes_eq (after c).slots q ≡ with_key c.args.key.now (Some (slot_after c)) (get bytes_eq c.self.inside.slots) q
 sets c = sets_written c.self.inside.slots _ c.args.key.now c.unwrap-slot.result.now (slot_after c) (found c) (c.get_mut.follows.holds (slot_after c))
 
-wrote : (c : goal.After-self-1) → shown_value c.write_counter.new.self ≡ Number c.args.number
+wrote : (c : goal.After-self-1) → content_of c.write_counter.new.self ≡ Number c.args.number
 wrote c = c.write_counter.ensures.value ∙ ap Number (to_z-of_z w64 c.args.number c.ranges.number)
 
 pub write_counter-requires : goal.write_counter-requires
 write_counter-requires c =
     let found = sym (ap option_copied_mut c.unwrap-slot.ensures) ∙ c.get_mut.ensures.value in
     let shows = entry_at-read c.self.inside c.args.self.now c.args.key.now (Some c.unwrap-slot.result.now) c.self.view_is found in
-    subst (λ (e : Option Entry). IsTrue (is_there (counter_at e))) shows c.requires
+    subst (λ (e : Option KeyEntry). IsTrue (is_there (counter_at e))) shows c.requires
 
 pub invariant_of-self : goal.invariant_of-self
 invariant_of-self c =
     let inside = c.self.inside in
     let u = c.unwrap-slot.result.now in
-    IsKept-set inside (after c) c.args.key.now (Some (slot_after c)) c.self.invariant refl (omega arith) refl (sets c)
+    IsKeySpace-set inside (after c) c.args.key.now (Some (slot_after c)) c.self.invariant refl (omega arith) refl (sets c)
     (omega (arith, (c.get_mut.follows.holds (slot_after c)).6))
-    (ForSome-some (IsSoundSlot inside.moment inside.least_expiry) (slot_after c)
-    (IsSoundSlot-counter inside.moment inside.least_expiry u _ c.args.number (wrote c) (c.self.invariant.slots c.args.key.now u (sym (found c)))))
+    (ForSome-some (IsLiveSlot inside.moment inside.least_expiry) (slot_after c)
+    (IsLiveSlot-counter inside.moment inside.least_expiry u _ c.args.number (wrote c) (c.self.invariant.slots c.args.key.now u (sym (found c)))))
     (IsRoomFor-some _ u (slot_after c) (found c) (λ room. c.write_counter.ensures.room))
 
 pub returns-clause-entry : goal.returns-clause-entry

@@ -5,10 +5,10 @@ use Rattle.std.specs.Str.{bytes_eq}
 use Rattle.indexmap.specs.IndexMap.{get}
 use Rattle.lr_keys.specs.declared.key_space.KeySpace.TheInside.{Inside}
 use Rattle.lr_keys.specs.declared.slot.Slot.{Slot}
-use Rattle.lr_keys.specs.KeySpace.{Entry, content_with_field, entry_with_field, is_there, field_at}
-use Rattle.lr_keys.specs.Table.{put}
-use Rattle.lr_keys.specs.Kept.{IsSoundSlot, shown, shown_value}
-use Rattle.lr_keys.proofs.KeptLemmas.{ForSome-some, IsKept-set, IsRoomFor-some, IsSome-lent, IsSome-slot, IsSoundSlot-with_field, entry_at-changed, entry_at-read, few_there, plan_at-same, sets_written}
+use Rattle.lr_keys.specs.KeySpace.{KeyEntry, content_with_field, entry_with_field, is_there, field_at}
+use Rattle.lr_keys.specs.Table.{with_key}
+use Rattle.lr_keys.specs.Slots.{IsLiveSlot, key_entry_of, content_of}
+use Rattle.lr_keys.proofs.SlotLemmas.{ForSome-some, IsKeySpace-set, IsRoomFor-some, IsSome-lent, IsSome-slot, IsLiveSlot-with_field, entry_at-changed, entry_at-read, few_there, plan_at-same, sets_written}
 use Rattle.lr_keys.proofs.key_space.KeySpace.write_field.Goals as goal
 
 -- the slot and the fields after the call
@@ -23,16 +23,16 @@ found : (c : goal.After-self-1) → Some c.unwrap-slot.result.now ≡ get bytes_
 found c = sym (ap option_copied_mut c.unwrap-slot.ensures) ∙ c.get_mut.ensures.value
 
 -- it has the field
-there : (c : goal.After-self-1) → IsTrue (is_there (field_at c.args.field.now (Some (shown c.unwrap-slot.result.now))))
+there : (c : goal.After-self-1) → IsTrue (is_there (field_at c.args.field.now (Some (key_entry_of c.unwrap-slot.result.now))))
 there c =
     let shows = entry_at-read c.self.inside c.args.self.now c.args.key.now (Some c.unwrap-slot.result.now) c.self.view_is (found c) in
-    subst (λ (e : Option Entry). IsTrue (is_there (field_at c.args.field.now e))) shows c.requires
+    subst (λ (e : Option KeyEntry). IsTrue (is_there (field_at c.args.field.now e))) shows c.requires
 
-sets : (c : goal.After-self-1) (q : List ℕ) → get bytes_eq (after c).slots q ≡ put c.args.key.now (Some (slot_after c)) (get bytes_eq c.self.inside.slots) q
+sets : (c : goal.After-self-1) (q : List ℕ) → get bytes_eq (after c).slots q ≡ with_key c.args.key.now (Some (slot_after c)) (get bytes_eq c.self.inside.slots) q
 sets c = sets_written c.self.inside.slots _ c.args.key.now c.unwrap-slot.result.now (slot_after c) (found c) (c.get_mut.follows.holds (slot_after c))
 
-wrote : (c : goal.After-self-1) → shown_value c.write_field.new.self ≡ content_with_field c.args.field.now c.args.number (shown_value c.unwrap-slot.result.now.value)
-wrote c = c.write_field.ensures.value ∙ ap (λ z. content_with_field c.args.field.now z (shown_value c.unwrap-slot.result.now.value)) (to_z-of_z w64 c.args.number c.ranges.number)
+wrote : (c : goal.After-self-1) → content_of c.write_field.new.self ≡ content_with_field c.args.field.now c.args.number (content_of c.unwrap-slot.result.now.value)
+wrote c = c.write_field.ensures.value ∙ ap (λ z. content_with_field c.args.field.now z (content_of c.unwrap-slot.result.now.value)) (to_z-of_z w64 c.args.number c.ranges.number)
 
 pub unwrap-slot-requires : goal.unwrap-slot-requires
 unwrap-slot-requires c =
@@ -43,17 +43,17 @@ pub write_field-requires : goal.write_field-requires
 write_field-requires c =
     let found = sym (ap option_copied_mut c.unwrap-slot.ensures) ∙ c.get_mut.ensures.value in
     let shows = entry_at-read c.self.inside c.args.self.now c.args.key.now (Some c.unwrap-slot.result.now) c.self.view_is found in
-    subst (λ (e : Option Entry). IsTrue (is_there (field_at c.args.field.now e))) shows c.requires
+    subst (λ (e : Option KeyEntry). IsTrue (is_there (field_at c.args.field.now e))) shows c.requires
 
 pub invariant_of-self : goal.invariant_of-self
 invariant_of-self c =
     let inside = c.self.inside in
     let u = c.unwrap-slot.result.now in
     let sound = c.self.invariant.slots c.args.key.now u (sym (found c)) in
-    IsKept-set inside (after c) c.args.key.now (Some (slot_after c)) c.self.invariant refl (omega arith) refl (sets c)
+    IsKeySpace-set inside (after c) c.args.key.now (Some (slot_after c)) c.self.invariant refl (omega arith) refl (sets c)
     (omega (arith, (c.get_mut.follows.holds (slot_after c)).6))
-    (ForSome-some (IsSoundSlot inside.moment inside.least_expiry) (slot_after c)
-    (IsSoundSlot-with_field inside.moment inside.least_expiry u c.write_field.new.self c.args.field.now c.args.number sound (wrote c)
+    (ForSome-some (IsLiveSlot inside.moment inside.least_expiry) (slot_after c)
+    (IsLiveSlot-with_field inside.moment inside.least_expiry u c.write_field.new.self c.args.field.now c.args.number sound (wrote c)
     (few_there inside.moment u c.args.field.now c.args.number sound.live (there c))))
     (IsRoomFor-some _ u (slot_after c) (found c) c.write_field.ensures.room)
 

@@ -3,7 +3,7 @@ use Rattle.std.specs.Prelude.{◌≡◌, ◌≤◌, ◌<◌, ℕ, List, [], Opti
 use Rattle.std.specs.Option.{ForSome}
 use Rattle.std.specs.Str.{bytes_eq}
 use Rattle.indexmap.specs.IndexMap.{get, spare, index_map_len}
-use Rattle.lr_keys.specs.declared.TheConstants.{MAX_MOMENT}
+use Rattle.lr_limits.specs.Limits.{last_moment}
 use Rattle.lr_keys.specs.declared.slot.Slot.{Slot}
 use Rattle.lr_keys.specs.declared.slot.Spare.{Spare}
 use Rattle.lr_keys.specs.declared.slot.Stored.{Stored}
@@ -11,26 +11,26 @@ use Rattle.lr_keys.specs.declared.slot.Stored.TheVariants.{Hash, Counter}
 use Rattle.lr_keys.specs.declared.value_kind.ValueKind.{ValueKind}
 use Rattle.lr_keys.specs.declared.value_kind.ValueKind.TheVariants.{Hash as HashKind}
 use Rattle.lr_keys.specs.declared.key_space.KeySpace.TheInside.{Inside}
-use Rattle.lr_keys.specs.KeySpace.{Content, Fields, Number, Entry, Plan, Keys, IsLive, is_ahead}
+use Rattle.lr_keys.specs.KeySpace.{Content, Fields, Number, KeyEntry, Plan, Keys, IsLive, is_ahead}
 
-abbrev pub shown_value : Stored → Content
-shown_value (Hash fields) = Fields fields.pairs
-shown_value (Counter n) = Number n
+abbrev pub content_of : Stored → Content
+content_of (Hash fields) = Fields fields.pairs
+content_of (Counter n) = Number n
 
-abbrev pub shown : Slot → Entry
-shown slot = record { value = shown_value slot.value; expiry = slot.expiry }
+abbrev pub key_entry_of : Slot → KeyEntry
+key_entry_of slot = record { value = content_of slot.value; expiry = slot.expiry }
 
 abbrev pub plan_of : Spare → Plan
 plan_of s = record { kind = s.kind; member = s.member }
 
-abbrev pub shown_entries : List (List ℕ × Slot) → List (List ℕ × Entry)
-shown_entries es = map (λ e. (e.0, shown e.1)) es
+abbrev pub key_entries_of : List (List ℕ × Slot) → List (List ℕ × KeyEntry)
+key_entries_of es = map (λ e. (e.0, key_entry_of e.1)) es
 
-abbrev pub shown_plans : List (List ℕ × Spare) → List (List ℕ × Plan)
-shown_plans es = map (λ e. (e.0, plan_of e.1)) es
+abbrev pub plans_of : List (List ℕ × Spare) → List (List ℕ × Plan)
+plans_of es = map (λ e. (e.0, plan_of e.1)) es
 
-abbrev pub shown_keys : Inside → Keys
-shown_keys s = record { moment = s.moment; entries = shown_entries s.slots.entries; plans = shown_plans s.spares.entries }
+abbrev pub keys_of : Inside → Keys
+keys_of s = record { moment = s.moment; entries = key_entries_of s.slots.entries; plans = plans_of s.spares.entries }
 
 -- a hash has room for a field
 abbrev pub HasRoom : Stored → Type 0
@@ -48,32 +48,32 @@ abbrev pub IsSpareFor : ValueKind → ℕ → Type 0
 IsSpareFor HashKind room = 0 < room
 IsSpareFor _ room = ⊤
 
-pub record IsReady (o : Option Slot) (s : Spare) : Type 0 where
+pub record IsReadySpare (o : Option Slot) (s : Spare) : Type 0 where
   pub empty : s.hash.pairs ≡ []
   pub spare : IsSpareFor s.kind s.hash.room
   pub room : IsRoomFor o s.kind
 
 -- a slot is live, and expires no earlier than the bound
-pub record IsSoundSlot (moment least : ℕ) (slot : Slot) : Type 0 where
-  pub live : IsLive moment (shown slot)
+pub record IsLiveSlot (moment least : ℕ) (slot : Slot) : Type 0 where
+  pub live : IsLive moment (key_entry_of slot)
   pub bound : ForSome slot.expiry (λ expiry. least ≤ expiry)
 
-pub record IsKept (s : Inside) : Type 0 where
-  pub moment : s.moment ≤ MAX_MOMENT
-  pub slots : (key : List ℕ) → ForSome (get bytes_eq s.slots key) (IsSoundSlot s.moment s.least_expiry)
+pub record IsKeySpace (s : Inside) : Type 0 where
+  pub moment : s.moment ≤ last_moment
+  pub slots : (key : List ℕ) → ForSome (get bytes_eq s.slots key) (IsLiveSlot s.moment s.least_expiry)
   pub room : index_map_len s.spares ≤ spare s.slots
-  pub ready : (key : List ℕ) → ForSome (get bytes_eq s.spares key) (IsReady (get bytes_eq s.slots key))
+  pub ready : (key : List ℕ) → ForSome (get bytes_eq s.spares key) (IsReadySpare (get bytes_eq s.slots key))
 
 -- a slot of a new key
 abbrev pub new_slot : Stored → Slot
 new_slot value = record { value = value; expiry = None }
 
 -- a slot is shown as before, and room that it had it has
-abbrev pub SlotKept : Option Slot → Option Slot → Type 0
-SlotKept None None = ⊤
-SlotKept (Some u) (Some w) = (shown w ≡ shown u) × (HasRoom u.value → HasRoom w.value)
-SlotKept None (Some w) = ⊥
-SlotKept (Some u) None = ⊥
+abbrev pub KeepsSlot : Option Slot → Option Slot → Type 0
+KeepsSlot None None = ⊤
+KeepsSlot (Some u) (Some w) = (key_entry_of w ≡ key_entry_of u) × (HasRoom u.value → HasRoom w.value)
+KeepsSlot None (Some w) = ⊥
+KeepsSlot (Some u) None = ⊥
 
 -- the lesser of a bound and an expiry
 abbrev pub sooner_of : ℕ → Option ℕ → ℕ
