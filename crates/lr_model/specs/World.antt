@@ -218,14 +218,14 @@ shown world (events.Force name) = shows.Replied (replied_at (state_of world) wor
 
 -- What an event changes.
 
--- the world with another client of this number
-abbrev pub with_client : World → ℕ → Client → World
-with_client world c client = record world { clients = put ◌==◌ world.clients c client }
+-- the clients after a row of one of them: where the event doesn't apply all stay
+abbrev pub clients_after : (ℕ → Client) → ℕ → Option Client → ℕ → Client
+clients_after clients c (Some client) = put ◌==◌ clients c client
+clients_after clients c None = clients
 
 -- the world after a row of a client
 abbrev pub next_row : World → ℕ → Option Client → World
-next_row world c (Some client) = with_client world c client
-next_row world c None = world
+next_row world c row = record world { clients = clients_after world.clients c row }
 
 -- the world after the server ran a call
 abbrev pub with_entry : World → ℕ → ℕ → Op → World
@@ -234,8 +234,8 @@ with_entry world caller conn op =
 
 abbrev pub next_exec : World → ℕ → ℕ → Option Asking → World
 next_exec world c t (Some asking) =
-    with_client (with_entry world (caller_of c t) (command_connection c) asking.op) c
-    (client_after_exec t asking (reply_of (state_of world).objects world.moment asking.op) (world.clients c))
+    next_row (with_entry world (caller_of c t) (command_connection c) asking.op) c
+    (Some (client_after_exec t asking (reply_of (state_of world).objects world.moment asking.op) (world.clients c)))
 next_exec world c t None = world
 
 abbrev pub next : World → Event → World
