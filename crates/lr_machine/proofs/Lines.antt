@@ -4,7 +4,7 @@ use Rattle.std.specs.Io.KnownBytes.{Appends}
 use Rattle.std.proofs.KnownBytes.{Appends-nil}
 use Rattle.lr_outside.specs.Lines.{lines_of, ahead, WhereKnown, IsTurn, IsUndecided}
 use Rattle.lr_outside.specs.Turns.{AppendsFront, Rose}
-use Rattle.lr_outside.specs.declared.TheConstants.{LINE_BYTES}
+use Rattle.lr_limits.specs.Limits.{line_limit}
 use Rattle.lr_outside.specs.declared.line_reader.LineTurn.TheVariants.{Line, End, TooLong, Fault}
 use Rattle.lr_outside.specs.declared.status.Status.{Status}
 use Rattle.lr_outside.specs.declared.status.Status.TheVariants as statuses
@@ -161,7 +161,7 @@ module _ (kept kept' all before : List ℕ) (left left' held held' : Option (Lis
       (inl (was_read all before at.bytes at.text number world at.progress bytes.now line kept' parts.rest bytes.holds parts.whole)) status told
 
   -- a line that is too long ends it
-  pub at_long : (status : Status) → WhereKnown (λ b a. IsTurn b a TooLong) (ahead kept left) (ahead kept' left') → ((line : List ℕ) → LINE_BYTES < length line → IsLine number line kinds.Bad)
+  pub at_long : (status : Status) → WhereKnown (λ b a. IsTurn b a TooLong) (ahead kept left) (ahead kept' left') → ((line : List ℕ) → line_limit < length line → IsLine number line kinds.Bad)
       → Told world number kinds.Bad held held' (Some status) → Ends status left' held' all before
   at_long status turn bad told =
       let bytes = known_after (λ b a. IsTurn b a TooLong) (ahead kept left) (ahead kept' left') at.bytes at.bytes_are turn in

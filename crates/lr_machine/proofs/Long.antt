@@ -2,7 +2,7 @@
 use Rattle.std.proofs.Common.{ℕ, ◌<◌, ◌≤◌, ◌^◌, List, length, decimal, sym, ap, subst, arith}
 use Rattle.std.proofs.lemmas.List.{length-append}
 use Rattle.lr_text.proofs.NumberLaws.{length-decimal}
-use Rattle.lr_outside.specs.declared.TheConstants.{LINE_BYTES}
+use Rattle.lr_limits.specs.Limits.{line_limit}
 use Rattle.lr_objects.specs.declared.function.Function.{Function}
 use Rattle.lr_objects.specs.declared.function.Function.TheVariants.{LockTry, LockUnlock, LockRenew, LockForce}
 use Rattle.lr_model.specs.declared.event.Event.{Event}
@@ -32,5 +32,5 @@ short_text (Take c t) is = simp length-append (omega (arith, short_number c is.0
 short_text (Tick moment) is = simp length-append (omega (arith, short_number moment (omega arith)))
 short_text (Force name) is = simp length-append (omega (arith, is.short))
 
-pub long_is_bad : (number : ℕ) (line : List ℕ) → LINE_BYTES < length line → IsLine number line kinds.Bad
+pub long_is_bad : (number : ℕ) (line : List ℕ) → line_limit < length line → IsLine number line kinds.Bad
 long_is_bad number line long event is same = omega (arith, ap length same, short_text event is)

@@ -3,7 +3,7 @@ use Rattle.std.proofs.Common.{◌≡◌, ◌≢◌, ℕ, ◌<◌, ◌≤◌, Lis
 use Rattle.std.proofs.lemmas.Bool.{cases_eq}
 use Rattle.std.proofs.lemmas.Bool.Decides.{nat_tests}
 use Rattle.std.proofs.lemmas.List.Elements.{All-head, All-tail}
-use Rattle.lr_outside.specs.declared.TheConstants.{LINE_BYTES}
+use Rattle.lr_limits.specs.Limits.{line_limit}
 use Rattle.lr_outside.specs.Lines.{with_first, lines_of, HasNoLineEnd, BeginsTooLong}
 
 -- a byte other than LF stands before the first line
@@ -78,7 +78,7 @@ starts (b ∷ c ∷ front) rest whole some =
     }
 
 -- so many bytes without LF make the first line too long
-pub begins_too_long : (before : List ℕ) (n : ℕ) → LINE_BYTES < n → n ≤ length before → HasNoLineEnd (take n before) → BeginsTooLong before
+pub begins_too_long : (before : List ℕ) (n : ℕ) → line_limit < n → n ≤ length before → HasNoLineEnd (take n before) → BeginsTooLong before
 begins_too_long before n long within whole =
     let len = length-take-le n before within in
     let begun = starts (take n before) (drop n before) whole (omega arith) in

@@ -2,7 +2,7 @@
 use Rattle.std.specs.Prelude.{◌≡◌, ◌≢◌, true, false, ℕ, ◌<◌, ◌≤◌, List, [], ◌∷◌, ◌++◌, length, take, Option, Some, None}
 use Rattle.lr_outside.specs.Reading.{Reading}
 use Rattle.lr_outside.specs.Lines.{HasNoLineEnd, IsUndecided}
-use Rattle.lr_outside.specs.declared.TheConstants.{LINE_BYTES}
+use Rattle.lr_limits.specs.Limits.{line_limit}
 use Rattle.lr_outside.specs.declared.line_reader.LineTurn.{LineTurn}
 use Rattle.lr_outside.specs.declared.line_reader.LineTurn.TheVariants.{Line, End, TooLong, Fault}
 
@@ -10,13 +10,13 @@ use Rattle.lr_outside.specs.declared.line_reader.LineTurn.TheVariants.{Line, End
 pub record IsKeptLine (old new : Reading) (line : List ℕ) : Type 0 where
   pub bytes : old.kept ≡ line ++ 10 ∷ new.kept
   pub whole : HasNoLineEnd line
-  pub fits : length line ≤ LINE_BYTES
+  pub fits : length line ≤ line_limit
   pub free : new.stuck ≡ false
 
 -- so many bytes without LF that no line begins with them
 pub record IsKeptTooLong (old new : Reading) : Type 0 where
   pub count : ℕ
-  pub long : LINE_BYTES < count
+  pub long : line_limit < count
   pub within : count ≤ length old.kept
   pub whole : HasNoLineEnd (take count old.kept)
   pub kept : new.kept ≡ old.kept
@@ -32,7 +32,8 @@ IsKeptTurn old new (Some Fault) = ⊥
 
 -- what is kept where the source is at its end: the last line, or nothing
 abbrev pub IsLastTurn : Reading → Reading → LineTurn → Type 0
-IsLastTurn old new (Line line) = (line ≡ old.kept) × (line ≢ []) × (new.kept ≡ []) × (new.stuck ≡ false)
+IsLastTurn old new (Line line) =
+    (line ≡ old.kept) × (line ≢ []) × (new.kept ≡ []) × (new.stuck ≡ false)
 IsLastTurn old new End = (old.kept ≡ []) × (new ≡ old)
 IsLastTurn old new TooLong = ⊥
 IsLastTurn old new Fault = ⊥

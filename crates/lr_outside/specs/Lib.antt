@@ -1,8 +1,10 @@
-pub mod Adapters
+pub mod InputSource
 pub mod KeptTurns
 pub mod Lines
-pub mod Memory
-pub mod Plain
+pub mod MemSink
+pub mod MemSource
+pub mod OutputSink
+pub mod PlainSource
 pub mod Reading
 pub mod Status
 pub mod Turns

@@ -1,4 +1,5 @@
--- The exit status of each end of a run: this project's own numbers, with 0 for success as everywhere and 1 left to the runtime.
+-- The exit status of each end of a run: this project's own numbers, with 0 for success as
+-- everywhere and 1 left to the runtime.
 use Rattle.std.specs.Prelude.{ℕ}
 use Rattle.lr_outside.specs.declared.status.Status.{Status}
 use Rattle.lr_outside.specs.declared.status.Status.TheVariants.{Done, Usage, ReadFault, WriteFault, BadLine, NoMemory, TooMany, Wrong, Closed}

@@ -1,25 +1,30 @@
-//! What the programs read from and write to, as traits; what stands for them in memory and over std; and lines.
+//! What the programs read from and write to, as traits; what stands for them in memory and over
+//! std; and lines.
 #![tactic(auto)]
 
-mod adapters;
+mod counting_reader;
+mod counting_writer;
+mod input_source;
 mod line_reader;
-mod memory;
-mod plain;
+mod mem_sink;
+mod mem_source;
+mod output_sink;
+mod plain_sink;
+mod plain_source;
 mod sink;
 mod source;
 mod status;
+#[cfg(test)]
+mod tests;
 mod window;
 
-pub use adapters::{InputSource, OutputSink};
+pub use input_source::InputSource;
 pub use line_reader::{Line, LineReader, LineTurn};
-pub use memory::{MemSink, MemSource};
-pub use plain::{PlainSink, PlainSource};
+pub use mem_sink::MemSink;
+pub use mem_source::MemSource;
+pub use output_sink::OutputSink;
+pub use plain_sink::PlainSink;
+pub use plain_source::PlainSource;
 pub use sink::{Sink, WriteTurn, write_whole};
 pub use source::{ReadTurn, Source};
 pub use status::Status;
-
-/// The greatest length of a [`Line`], in bytes.
-pub const LINE_BYTES: usize = 512;
-
-#[cfg(test)]
-mod tests;

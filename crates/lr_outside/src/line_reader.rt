@@ -1,11 +1,13 @@
 // A reader of lines.
 ghost use Rattle.std.specs.Prelude.{◌≡◌, ◌+◌, ◌<◌, ◌≤◌, ◌↔◌, [], IfOk, IfSome, IfNone, IsTrue, false, length, take, slice_index, Contains};
 ghost use Rattle.std.specs.Bool.{OnTrue, OnFalse};
-ghost use Rattle.lr_outside.specs.Lines.{HasNoLineEnd, ahead, WhereKnown, IsTurn, FaultHasCause, IsUndecided};
+ghost use Rattle.lr_outside.specs.Lines.{HasNoLineEnd, ahead, WhereKnown, IsTurn, is_fault, FaultHasCause, IsUndecided};
+ghost use Rattle.lr_outside.specs.Turns.{CountsFaults};
 ghost use Rattle.lr_outside.specs.KeptTurns.{IsKeptTurn, IsLastTurn};
 
 use crate::window::Window;
-use crate::{LINE_BYTES, ReadTurn, Source};
+use crate::{ReadTurn, Source};
+use lr_limits::LINE_BYTES;
 use lr_text::ShortText;
 use std::alloc::{AllocError, Global};
 use std::marker::Model;
@@ -13,8 +15,9 @@ use std::marker::Model;
 /// The byte that ends a line.
 const LF: u8 = b'\n';
 
-/// The bytes of a line, without its LF: at most 512, of fixed size, copied without memory.
-pub type Line = ShortText<512>;
+/// The bytes of a line, without its LF: at most [`LINE_BYTES`], of fixed size, copied without
+/// memory.
+pub type Line = ShortText<LINE_BYTES>;
 
 /// What [`LineReader::next`] gives.
 #[derive(Clone, Copy, PartialEq, Eq)]
@@ -23,9 +26,11 @@ pub enum LineTurn {
     Line(Line),
     /// There is no line any more.
     End,
-    /// The next line has more than 512 bytes. Each turn from here on is this one, and reads nothing.
+    /// The next line has more than [`LINE_BYTES`] bytes. Each turn from here on is this one, and
+    /// reads nothing.
     TooLong,
-    /// A read failed before the answer was known. What came before stays, and the next turn reads on.
+    /// A read failed before the answer was known. What came before stays, and the next turn reads
+    /// on.
     Fault,
 }
 
@@ -55,7 +60,8 @@ fn line_end(bytes: &[u8]) -> Option<usize>
     bytes.iter().position(|byte| *byte == LF)
 }
 
-// How many bytes stand before the first LF: all of them where there is none. The first `searched` have none.
+// How many bytes stand before the first LF: all of them where there is none. The first `searched`
+// have none.
 fn line_len(bytes: &[u8], searched: usize) -> usize
     requires within { searched ≤ length bytes.now }
     requires none { HasNoLineEnd (take searched bytes.now) }
@@ -81,18 +87,24 @@ impl LineReader {
         })
     }
 
-    /// The next line of the bytes that are kept and then of what the source has left. It reads only where the kept
-    /// bytes don't tell the answer.
+    /// The next line of the bytes that are kept and then of what the source has left. It reads only
+    /// where the kept bytes don't tell the answer.
     pub fn next<S: Source>(&mut self, source: &mut S) -> LineTurn
         // Where the source tells its bytes, the turn is right about them.
         ensures turn { OnFalse self.old.stuck (WhereKnown (λ before after. IsTurn before after result)
             (ahead self.old.kept (S.left source.old)) (ahead self.new.kept (S.left source.new))) }
-        ensures fault { FaultHasCause (S.faults source.old) (S.faults source.new) self.new.kept result }
+        ensures fault { FaultHasCause (S.faults source.old) (S.faults source.new)
+            self.new.kept result }
+
+        // No read failed, or at a fault just the last one did.
+        ensures counts { CountsFaults (S.faults source.old) (S.faults source.new)
+            (is_fault result) }
         ensures later { S.faults source.old ≤ S.faults source.new }
 
         // From the first line that is too long on nothing changes.
         ensures stuck { IsTrue self.new.stuck ↔ (result ≡ LineTurn.TooLong) }
-        ensures stays { OnTrue self.old.stuck ((self.new ≡ self.old) × (source.new ≡ source.old)) }
+        ensures stays { OnTrue self.old.stuck
+            ((self.new ≡ self.old) × (source.new ≡ source.old)) }
 
         // A line that is there whole is given without a read.
         ensures prompt { Contains self.old.kept 10 → source.new ≡ source.old }
@@ -112,7 +124,12 @@ impl LineReader {
         requires undecided { IsUndecided self.old.kept }
         ensures turn { WhereKnown (λ before after. IsTurn before after result)
             (ahead self.old.kept (S.left source.old)) (ahead self.new.kept (S.left source.new)) }
-        ensures fault { FaultHasCause (S.faults source.old) (S.faults source.new) self.new.kept result }
+        ensures fault { FaultHasCause (S.faults source.old) (S.faults source.new)
+            self.new.kept result }
+
+        // No read failed, or at a fault just the last one did.
+        ensures counts { CountsFaults (S.faults source.old) (S.faults source.new)
+            (is_fault result) }
         ensures later { S.faults source.old ≤ S.faults source.new }
         ensures stuck { IsTrue self.new.stuck ↔ (result ≡ LineTurn.TooLong) }
     {
@@ -130,8 +147,8 @@ impl LineReader {
         }
     }
 
-    // Takes the first line of the kept bytes, or says that it is too long, where they tell it. The first `searched`
-    // of them have no LF.
+    // Takes the first line of the kept bytes, or says that it is too long, where they tell it. The
+    // first `searched` of them have no LF.
     fn take_kept(&mut self, searched: usize) -> Option<LineTurn>
         requires free { self.old.stuck ≡ false }
         requires within { searched ≤ length self.old.kept }

@@ -17,7 +17,8 @@ pub enum Status {
     BadLine(u64),
     /// Memory ran out.
     NoMemory,
-    /// A limit of the program was passed: the line of this number passes it, or so many passes were made.
+    /// A limit of the program was passed: the line of this number passes it, or so many passes were
+    /// made.
     TooMany(u64),
     /// The answer to the line of this number, or of this check, is wrong.
     Wrong(u64),

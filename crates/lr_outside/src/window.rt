@@ -1,9 +1,9 @@
 // A fixed buffer, of which the part that is kept lies between two places.
 ghost use Rattle.std.specs.Prelude.{◌≡◌, ◌+◌, ◌<◌, ◌≤◌, [], IfOk, length, drop, vec_len};
-ghost use Rattle.lr_outside.specs.declared.TheConstants.{LINE_BYTES};
-ghost use Rattle.lr_outside.specs.Turns.{FailedReadRose};
+ghost use Rattle.lr_limits.specs.Limits.{line_limit};
+ghost use Rattle.lr_outside.specs.Turns.{is_failed_read, CountsFaults};
 
-use crate::{LINE_BYTES, ReadTurn, Source};
+use crate::{ReadTurn, Source};
 use std::alloc::{AllocError, Global};
 
 /// How many bytes a window has room for.
@@ -16,7 +16,7 @@ pub struct Window {
     end: usize,
     ghost in_order: { start ≤ end },
     ghost in_buffer: { end ≤ vec_len buffer },
-    ghost has_room: { LINE_BYTES < vec_len buffer },
+    ghost has_room: { line_limit < vec_len buffer },
 }
 
 impl Window {
@@ -47,9 +47,10 @@ impl Window {
         self.start += count;
     }
 
-    // Moves what is kept to the front, once nothing more fits behind it or there is nothing to move.
+    // Moves what is kept to the front, once nothing more fits behind it or there is nothing to
+    // move.
     fn make_room(&mut self)
-        requires { length (kept_bytes self.old) ≤ LINE_BYTES }
+        requires { length (kept_bytes self.old) ≤ line_limit }
         ensures kept { kept_bytes self.new ≡ kept_bytes self.old }
         ensures room { self.new.end < vec_len self.new.buffer }
     {
@@ -62,11 +63,11 @@ impl Window {
 
     /// Reads once, and keeps what came behind what is kept.
     pub fn fill<S: Source>(&mut self, source: &mut S) -> ReadTurn
-        requires { length (kept_bytes self.old) ≤ LINE_BYTES }
+        requires { length (kept_bytes self.old) ≤ line_limit }
         ensures bytes { Fills (kept_bytes self.old) (kept_bytes self.new)
             (S.left source.old) (S.left source.new) result }
-        ensures later { S.faults source.old ≤ S.faults source.new }
-        ensures fault { FailedReadRose (S.faults source.old) (S.faults source.new) result }
+        ensures counts { CountsFaults (S.faults source.old) (S.faults source.new)
+            (is_failed_read result) }
     {
         self.make_room();
         let turn = source.read(&mut self.buffer[self.end..]);

@@ -15,8 +15,8 @@ pub use short_text::ShortText;
 pub use text::Text;
 pub use words::{Words, split_once};
 
-/// The greatest length of a [`Brief`], in bytes.
-pub const BRIEF_BYTES: usize = 128;
+use lr_limits::BRIEF_BYTES;
 
-/// A list of at most 128 bytes of fixed size, copied without memory: a key, a field, an owner's text.
-pub type Brief = ShortText<128>;
+/// A list of at most [`BRIEF_BYTES`] bytes of fixed size, copied without memory: a key, a field, an
+/// owner's text.
+pub type Brief = ShortText<BRIEF_BYTES>;

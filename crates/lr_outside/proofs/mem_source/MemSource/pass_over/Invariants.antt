@@ -1,11 +1,11 @@
 use Rattle.std.proofs.Common.{◌≡◌, length}
-use Rattle.lr_outside.specs.Memory.{unread_bytes, next_piece}
-use Rattle.lr_outside.proofs.memory.MemSource.pass_over.Given as goal
+use Rattle.lr_outside.specs.MemSource.{unread_bytes, unread_pieces}
+use Rattle.lr_outside.proofs.mem_source.MemSource.pass_over.Given as goal
 
 abbrev pub invariant-loop-self : goal.invariant-loop-self
 invariant-loop-self l = record {
   left : unread_bytes l.self ≡ unread_bytes l.fn.self;
-  piece : next_piece l.self ≡ next_piece l.fn.self;
+  pieces : unread_pieces l.self ≡ unread_pieces l.fn.self;
   faults : l.self.faults ≡ l.fn.self.faults;
   calls : l.self.calls ≡ l.fn.self.calls;
   failing : l.self.failing.now ≡ l.fn.self.failing.now;
