@@ -91,8 +91,10 @@ impl LineReader {
     /// where the kept bytes don't tell the answer.
     pub fn next<S: Source>(&mut self, source: &mut S) -> LineTurn
         // Where the source tells its bytes, the turn is right about them.
-        ensures turn { OnFalse self.old.stuck (WhereKnown (λ before after. IsTurn before after result)
-            (ahead self.old.kept (S.left source.old)) (ahead self.new.kept (S.left source.new))) }
+        ensures turn { OnFalse self.old.stuck
+            (WhereKnown (λ before after. IsTurn before after result)
+            (ahead self.old.kept (S.left source.old))
+            (ahead self.new.kept (S.left source.new))) }
         ensures fault { FaultHasCause (S.faults source.old) (S.faults source.new)
             self.new.kept result }
 
