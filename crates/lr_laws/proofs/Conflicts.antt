@@ -1,0 +1,59 @@
+-- No two claims that conflict are held at once in a legal history: the laws of all kinds joined.
+use Rattle.std.proofs.Common.{◌≡◌, ℕ, ◌≤◌, List, true, false, refl, subst}
+use Rattle.std.proofs.lemmas.Bool.{false_from_ne_true}
+use Rattle.lr_names.specs.Owner.{ThreadOfClient}
+use Rattle.lr_names.specs.declared.kind.Kind.{Kind}
+use Rattle.lr_names.specs.declared.kind.Kind.TheVariants.{Mutex}
+use Rattle.lr_objects.specs.declared.op.Op.TheVariants.{LockTry}
+use Rattle.lr_model.specs.declared.entry.Entry.{Entry}
+use Rattle.lr_model.specs.History.{State, state_at_start, after, IsLegal}
+use Rattle.lr_model.specs.Tenure.{HoldMode, Claim, conflicts, concerns, no_tenure, tenure_after, holds_at, NoConflict}
+use Rattle.lr_laws.proofs.Claims.{claim_on, on_one_object}
+use Rattle.lr_laws.proofs.KindLaws.{KindLaw, by_history}
+use Rattle.lr_laws.proofs.Mutexes.{mutex_law}
+use Rattle.lr_laws.proofs.UncalledKinds.{uncalled_law}
+
+-- The law of each kind. The last line is that of the kinds whose functions no call runs yet.
+law_of : (kind : Kind) → KindLaw kind
+law_of Mutex = mutex_law
+law_of kind =
+    uncalled_law kind
+    (λ name mode owner op. elim op as (λ o. concerns o (claim_on kind name mode owner) ≡ false)
+    [ LockTry _ _ _ ↦ refl | _ ↦ refl ])
+
+module _ (last : ℕ) (entries : List Entry) (legal : IsLegal (state_at_start last) entries) where
+  abbrev first : State
+  first = state_at_start last
+
+  -- the objects after the history back each claim
+  backed : (kind : Kind) (name : List ℕ) (mode : HoldMode) (owner : ThreadOfClient) (moment : ℕ)
+      → (after first entries).moment ≤ moment
+      → (law_of kind).Backs name mode owner moment
+      (tenure_after (claim_on kind name mode owner) first entries no_tenure)
+      (after first entries).objects
+  backed kind name mode owner moment later =
+      let law : KindLaw kind = law_of kind in
+      let claim : Claim = claim_on kind name mode owner in
+      let kept = law.kept name mode owner in
+      kept.by_time _ moment _ _ later
+      (by_history claim (law.Backs name mode owner) kept entries first no_tenure legal
+      kept.at_start)
+
+  -- so of two claims that conflict not both are held
+  apart : (a b : Claim) (moment : ℕ) → (after first entries).moment ≤ moment
+      → conflicts a b ≡ true → holds_at first entries a moment ≡ true
+      → holds_at first entries b moment ≡ true → ⊥
+  apart a b moment later conflict held others =
+      let other : Claim = claim_on a.kind a.name b.mode b.owner in
+      let one : b ≡ other = on_one_object a b conflict in
+      let so : conflicts a other ≡ true = subst (λ c. conflicts a c ≡ true) one conflict in
+      let too : holds_at first entries other moment ≡ true =
+      subst (λ c. holds_at first entries c moment ≡ true) one others in
+      (law_of a.kind).apart a.name a.mode b.mode a.owner b.owner so moment _ _ _
+      (backed a.kind a.name a.mode a.owner moment later)
+      (backed a.kind a.name b.mode b.owner moment later) held too
+
+pub no_conflict : (last : ℕ) (entries : List Entry)
+    → IsLegal (state_at_start last) entries → NoConflict (state_at_start last) entries
+no_conflict last entries legal a b moment later conflict held =
+    false_from_ne_true _ (apart last entries legal a b moment later conflict held)

@@ -1,0 +1,57 @@
+-- What a kind of object shows, so that no two claims on its objects that conflict are held at once.
+use Rattle.std.proofs.Common.{◌≡◌, ℕ, ◌≤◌, List, [], ◌∷◌, true}
+use Rattle.lr_names.specs.Owner.{ThreadOfClient}
+use Rattle.lr_names.specs.declared.kind.Kind.{Kind}
+use Rattle.lr_objects.specs.declared.op.Op.{Op}
+use Rattle.lr_model.specs.declared.entry.Act.{Act}
+use Rattle.lr_model.specs.declared.entry.Act.TheVariants.{Call}
+use Rattle.lr_model.specs.declared.entry.Entry.{Entry}
+use Rattle.lr_model.specs.Answer.{Objects, no_objects, reply_of, objects_after}
+use Rattle.lr_model.specs.History.{State, step, after, IsLegal, objects_by}
+use Rattle.lr_model.specs.Tenure.{HoldMode, Claim, Tenure, conflicts, is_current, no_tenure, tenure_by_call, tenure_by_act, tenure_after}
+use Rattle.lr_laws.proofs.Claims.{claim_on}
+
+-- The objects back the tenure of a claim at a moment: this is so at the start, and time and calls
+-- keep it so.
+pub record IsKept (claim : Claim) (Backs : ℕ → Tenure → Objects → Type 0) : Type 0 where
+  pub at_start : Backs 0 no_tenure no_objects
+  pub by_time : (m n : ℕ) (tenure : Tenure) (objects : Objects)
+      → m ≤ n → Backs m tenure objects → Backs n tenure objects
+  pub by_call : (moment : ℕ) (op : Op) (tenure : Tenure) (objects : Objects)
+      → Backs moment tenure objects
+      → Backs moment (tenure_by_call claim moment op (reply_of objects moment op) tenure)
+      (objects_after objects moment op)
+
+-- The law of a kind: how its objects back a claim by its name, its mode and its owner, and that
+-- they don't back two claims that conflict while both tenures are current.
+pub record KindLaw (kind : Kind) : Type 1 where
+  pub Backs : List ℕ → HoldMode → ThreadOfClient → ℕ → Tenure → Objects → Type 0
+  pub kept : (name : List ℕ) (mode : HoldMode) (owner : ThreadOfClient)
+      → IsKept (claim_on kind name mode owner) (Backs name mode owner)
+  pub apart : (name : List ℕ) (m n : HoldMode) (o p : ThreadOfClient)
+      → conflicts (claim_on kind name m o) (claim_on kind name n p) ≡ true
+      → (moment : ℕ) (t u : Tenure) (objects : Objects)
+      → Backs name m o moment t objects → Backs name n p moment u objects
+      → is_current t moment ≡ true → is_current u moment ≡ true → ⊥
+
+module _ (claim : Claim) (Backs : ℕ → Tenure → Objects → Type 0) (kept : IsKept claim Backs) where
+  -- acts keep it, and of these only a call does more than to let time pass
+  by_act : (state : State) (moment : ℕ) (act : Act) (tenure : Tenure)
+      → state.moment ≤ moment → Backs state.moment tenure state.objects
+      → Backs moment (tenure_by_act claim state moment act tenure) (objects_by state moment act)
+  by_act state moment (Call op) tenure later backs =
+      kept.by_call moment op tenure state.objects
+      (kept.by_time state.moment moment tenure state.objects later backs)
+  by_act state moment _ tenure later backs =
+      kept.by_time state.moment moment tenure state.objects later backs
+
+  -- so a legal history keeps it
+  pub by_history : (entries : List Entry) (state : State) (tenure : Tenure)
+      → IsLegal state entries → Backs state.moment tenure state.objects
+      → Backs (after state entries).moment (tenure_after claim state entries tenure)
+      (after state entries).objects
+  by_history [] state tenure legal backs = backs
+  by_history (entry ∷ entries) state tenure legal backs =
+      by_history entries (step state entry)
+      (tenure_by_act claim state entry.moment entry.act tenure) legal.1
+      (by_act state entry.moment entry.act tenure legal.0.in_time backs)

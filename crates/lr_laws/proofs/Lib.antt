@@ -1,0 +1,11 @@
+pub mod Owners
+pub mod Claims
+pub mod KindLaws
+pub mod Holds
+pub mod HoldTables
+pub mod Mutexes
+pub mod UncalledKinds
+pub mod Conflicts
+pub mod QuietBoards
+pub mod Worlds
+pub mod Schedules
