@@ -12,8 +12,8 @@ use Rattle.lr_keys.specs.declared.key_space.KeySpace.TheInside.{Inside}
 use Rattle.lr_keys.specs.declared.slot.Slot.{Slot}
 use Rattle.lr_keys.specs.declared.value_kind.ValueKind.{ValueKind}
 use Rattle.lr_keys.specs.KeySpace.{Keys, entry_at, is_ahead, live_entry, live_entries}
-use Rattle.lr_keys.specs.Slots.{IsKeySpace, IsRoomFor, live_slot, key_entry_of, keys_of, sooner_of}
-use Rattle.lr_keys.proofs.SlotLemmas.{entry_at-keys_of}
+use Rattle.lr_keys.specs.Slots.{IsKeySpace, IsRoomFor, live_slot, key_entry_of, keys_inside, sooner_of}
+use Rattle.lr_keys.proofs.SlotLemmas.{entry_at-keys_inside}
 
 pub option_filter-live : (moment : ℕ) (o : Option Slot) → option_filter (λ slot. is_ahead moment slot.expiry) o ≡ live_slot moment o
 option_filter-live moment None = refl
@@ -83,8 +83,8 @@ IsRoomFor-live moment (Some slot) kind room = by (is_ahead moment slot.expiry)
 
 module _ (s t : Inside) where
   -- what is left of the slots, as what is left of the entries
-  pub entry_at-live : (old : Keys) (moment : ℕ) → keys_of s ≡ old → ((q : List ℕ) → get bytes_eq t.slots q ≡ live_slot moment (get bytes_eq s.slots q)) → entry_at (keys_of t) ≡ live_entries moment (entry_at old)
-  entry_at-live old moment view slots = λ i q. (entry_at-keys_of t q ∙ ap (option_map key_entry_of) (slots q) ∙ key_entry_of-live_slot moment (get bytes_eq s.slots q) ∙ ap (live_entry moment) (sym (entry_at-keys_of s q) ∙ ap (λ k. entry_at k q) view)) i
+  pub entry_at-live : (old : Keys) (moment : ℕ) → keys_inside s ≡ old → ((q : List ℕ) → get bytes_eq t.slots q ≡ live_slot moment (get bytes_eq s.slots q)) → entry_at (keys_inside t) ≡ live_entries moment (entry_at old)
+  entry_at-live old moment view slots = λ i q. (entry_at-keys_inside t q ∙ ap (option_map key_entry_of) (slots q) ∙ key_entry_of-live_slot moment (get bytes_eq s.slots q) ∙ ap (live_entry moment) (sym (entry_at-keys_inside s q) ∙ ap (λ k. entry_at k q) view)) i
 
   -- what is kept stays so where what is gone is removed
   pub IsKeySpace-live : IsKeySpace s → t.moment ≤ last_moment → t.spares ≡ s.spares → ((q : List ℕ) → get bytes_eq t.slots q ≡ live_slot t.moment (get bytes_eq s.slots q))

@@ -6,7 +6,7 @@ use Rattle.std.specs.Str.{bytes_eq}
 use Rattle.std.specs.Map.{lookup, set_value}
 use Rattle.indexmap.specs.IndexMap.{IndexMap, get, spare, index_map_len, WritesThrough}
 use Rattle.lr_keys.specs.KeySpace.{Content, Fields, Number, Keys, KeyEntry, content_with_field, content_without_field, entry_with_value, entry_without_field, is_empty_hash, is_plan_for, is_same_kind, is_there, field_at, counter_at, field_of, hash_in, number_after_increment, field_after_increment, AreLive, IsLive, entry_at, plan_at}
-use Rattle.lr_keys.specs.Slots.{KeepsSlot, new_slot, key_entry_of, content_of, key_entries_of, plans_of, plan_of, HasRoom, IsSpareFor, keys_of, IsReadySpare, IsRoomFor, IsLiveSlot, IsKeySpace}
+use Rattle.lr_keys.specs.Slots.{KeepsSlot, new_slot, key_entry_of, content_of, key_entries_of, plans_of, plan_of, HasRoom, IsSpareFor, keys_inside, IsReadySpare, IsRoomFor, IsLiveSlot, IsKeySpace}
 use Rattle.lr_limits.specs.Limits.{last_moment, longest_lease, member_limit}
 use Rattle.lr_keys.specs.declared.value_kind.ValueKind.{ValueKind}
 use Rattle.lr_keys.specs.declared.value_kind.ValueKind.TheVariants.{Hash as HashKind, List as ListKind, Zset, Counter as CounterKind}
@@ -30,20 +30,20 @@ lookup-map {X} {Y} f test (e ∷ es) = by (test e.0) (lookup-map f test es)
     by true h = refl
     by false h = h
 
-pub entry_at-keys_of : (s : Inside) (key : List ℕ) → entry_at (keys_of s) key ≡ option_map key_entry_of (get bytes_eq s.slots key)
+pub entry_at-keys_inside : (s : Inside) (key : List ℕ) → entry_at (keys_inside s) key ≡ option_map key_entry_of (get bytes_eq s.slots key)
 unfolding entry_at
-entry_at-keys_of s key = lookup-map key_entry_of (bytes_eq key) s.slots.entries
+entry_at-keys_inside s key = lookup-map key_entry_of (bytes_eq key) s.slots.entries
 
-pub plan_at-keys_of : (s : Inside) (key : List ℕ) → plan_at (keys_of s) key ≡ option_map plan_of (get bytes_eq s.spares key)
+pub plan_at-keys_inside : (s : Inside) (key : List ℕ) → plan_at (keys_inside s) key ≡ option_map plan_of (get bytes_eq s.spares key)
 unfolding plan_at
-plan_at-keys_of s key = lookup-map plan_of (bytes_eq key) s.spares.entries
+plan_at-keys_inside s key = lookup-map plan_of (bytes_eq key) s.spares.entries
 
 -- what is read of the slots, for the keys that are shown
-pub entry_at-read : (s : Inside) (keys : Keys) (key : List ℕ) (o : Option Slot) → keys_of s ≡ keys → o ≡ get bytes_eq s.slots key → entry_at keys key ≡ option_map key_entry_of o
-entry_at-read s keys key o view read = ap (λ k. entry_at k key) (sym view) ∙ entry_at-keys_of s key ∙ ap (option_map key_entry_of) (sym read)
+pub entry_at-read : (s : Inside) (keys : Keys) (key : List ℕ) (o : Option Slot) → keys_inside s ≡ keys → o ≡ get bytes_eq s.slots key → entry_at keys key ≡ option_map key_entry_of o
+entry_at-read s keys key o view read = ap (λ k. entry_at k key) (sym view) ∙ entry_at-keys_inside s key ∙ ap (option_map key_entry_of) (sym read)
 
-pub plan_at-read : (s : Inside) (keys : Keys) (key : List ℕ) (o : Option Spare) → keys_of s ≡ keys → o ≡ get bytes_eq s.spares key → plan_at keys key ≡ option_map plan_of o
-plan_at-read s keys key o view read = ap (λ k. plan_at k key) (sym view) ∙ plan_at-keys_of s key ∙ ap (option_map plan_of) (sym read)
+pub plan_at-read : (s : Inside) (keys : Keys) (key : List ℕ) (o : Option Spare) → keys_inside s ≡ keys → o ≡ get bytes_eq s.spares key → plan_at keys key ≡ option_map plan_of o
+plan_at-read s keys key o view read = ap (λ k. plan_at k key) (sym view) ∙ plan_at-keys_inside s key ∙ ap (option_map plan_of) (sym read)
 
 -- what a mapped option holds came from a value
 pub option_map-some : {X Y : Type 0} (f : X → Y) (o : Option X) (y : Y) → option_map f o ≡ Some y → (x : X) × (o ≡ Some x) × (f x ≡ y)
@@ -51,40 +51,40 @@ option_map-some f None y h = absurd (cc h)
 option_map-some f (Some x) y h = (x, refl, cc h)
 
 -- what is kept of the fields, for the keys that are shown
-pub AreLive-keys_of : (s : Inside) → IsKeySpace s → AreLive (keys_of s)
-AreLive-keys_of s kept = record {
+pub AreLive-keys_inside : (s : Inside) → IsKeySpace s → AreLive (keys_inside s)
+AreLive-keys_inside s kept = record {
   moment = kept.moment;
   live = λ key e at.
-      let found = option_map-some key_entry_of (get bytes_eq s.slots key) e (sym (entry_at-keys_of s key) ∙ at) in
+      let found = option_map-some key_entry_of (get bytes_eq s.slots key) e (sym (entry_at-keys_inside s key) ∙ at) in
       subst (IsLive s.moment) found.2 (kept.slots key found.0 found.1).live;
 }
 
 -- where no key is kept, none is shown
-pub entry_at-empty : (s : Inside) → s.slots.entries ≡ [] → entry_at (keys_of s) ≡ (λ _. None)
-entry_at-empty s empty = λ i key. (entry_at-keys_of s key ∙ ap (λ es. option_map key_entry_of (lookup (bytes_eq key) es)) empty) i
+pub entry_at-empty : (s : Inside) → s.slots.entries ≡ [] → entry_at (keys_inside s) ≡ (λ _. None)
+entry_at-empty s empty = λ i key. (entry_at-keys_inside s key ∙ ap (λ es. option_map key_entry_of (lookup (bytes_eq key) es)) empty) i
 
-pub plan_at-empty : (s : Inside) → s.spares.entries ≡ [] → plan_at (keys_of s) ≡ (λ _. None)
-plan_at-empty s empty = λ i key. (plan_at-keys_of s key ∙ ap (λ es. option_map plan_of (lookup (bytes_eq key) es)) empty) i
+pub plan_at-empty : (s : Inside) → s.spares.entries ≡ [] → plan_at (keys_inside s) ≡ (λ _. None)
+plan_at-empty s empty = λ i key. (plan_at-keys_inside s key ∙ ap (λ es. option_map plan_of (lookup (bytes_eq key) es)) empty) i
 
 module _ (s t : Inside) where
   -- a change of the slots at one key, as a change of what is shown
-  pub entry_at-set : (keys : Keys) (key : List ℕ) (w : Option Slot) → keys_of s ≡ keys → ((q : List ℕ) → get bytes_eq t.slots q ≡ with_key key w (get bytes_eq s.slots) q) → entry_at (keys_of t) ≡ with_key key (option_map key_entry_of w) (entry_at keys)
-  entry_at-set keys key w view sets = λ i q. (entry_at-keys_of t q ∙ ap (option_map key_entry_of) (sets q) ∙ by q (bytes_eq key q) ∙ ap (λ k. with_key key (option_map key_entry_of w) (entry_at k) q) view) i
+  pub entry_at-set : (keys : Keys) (key : List ℕ) (w : Option Slot) → keys_inside s ≡ keys → ((q : List ℕ) → get bytes_eq t.slots q ≡ with_key key w (get bytes_eq s.slots) q) → entry_at (keys_inside t) ≡ with_key key (option_map key_entry_of w) (entry_at keys)
+  entry_at-set keys key w view sets = λ i q. (entry_at-keys_inside t q ∙ ap (option_map key_entry_of) (sets q) ∙ by q (bytes_eq key q) ∙ ap (λ k. with_key key (option_map key_entry_of w) (entry_at k) q) view) i
     where
-      by : (q : List ℕ) (b : Bool) → option_map key_entry_of (cond b w (get bytes_eq s.slots q)) ≡ cond b (option_map key_entry_of w) (entry_at (keys_of s) q)
+      by : (q : List ℕ) (b : Bool) → option_map key_entry_of (cond b w (get bytes_eq s.slots q)) ≡ cond b (option_map key_entry_of w) (entry_at (keys_inside s) q)
       by q true = refl
-      by q false = sym (entry_at-keys_of s q)
+      by q false = sym (entry_at-keys_inside s q)
 
-  pub plan_at-set : (keys : Keys) (key : List ℕ) (w : Option Spare) → keys_of s ≡ keys → ((q : List ℕ) → get bytes_eq t.spares q ≡ with_key key w (get bytes_eq s.spares) q) → plan_at (keys_of t) ≡ with_key key (option_map plan_of w) (plan_at keys)
-  plan_at-set keys key w view sets = λ i q. (plan_at-keys_of t q ∙ ap (option_map plan_of) (sets q) ∙ by q (bytes_eq key q) ∙ ap (λ k. with_key key (option_map plan_of w) (plan_at k) q) view) i
+  pub plan_at-set : (keys : Keys) (key : List ℕ) (w : Option Spare) → keys_inside s ≡ keys → ((q : List ℕ) → get bytes_eq t.spares q ≡ with_key key w (get bytes_eq s.spares) q) → plan_at (keys_inside t) ≡ with_key key (option_map plan_of w) (plan_at keys)
+  plan_at-set keys key w view sets = λ i q. (plan_at-keys_inside t q ∙ ap (option_map plan_of) (sets q) ∙ by q (bytes_eq key q) ∙ ap (λ k. with_key key (option_map plan_of w) (plan_at k) q) view) i
     where
-      by : (q : List ℕ) (b : Bool) → option_map plan_of (cond b w (get bytes_eq s.spares q)) ≡ cond b (option_map plan_of w) (plan_at (keys_of s) q)
+      by : (q : List ℕ) (b : Bool) → option_map plan_of (cond b w (get bytes_eq s.spares q)) ≡ cond b (option_map plan_of w) (plan_at (keys_inside s) q)
       by q true = refl
-      by q false = sym (plan_at-keys_of s q)
+      by q false = sym (plan_at-keys_inside s q)
 
   -- where the spares stay, what is prepared stays
-  pub plan_at-same : (keys : Keys) → keys_of s ≡ keys → t.spares.entries ≡ s.spares.entries → plan_at (keys_of t) ≡ plan_at keys
-  plan_at-same keys view same = λ i q. (plan_at-keys_of t q ∙ ap (λ es. option_map plan_of (lookup (bytes_eq q) es)) same ∙ sym (plan_at-keys_of s q) ∙ ap (λ k. plan_at k q) view) i
+  pub plan_at-same : (keys : Keys) → keys_inside s ≡ keys → t.spares.entries ≡ s.spares.entries → plan_at (keys_inside t) ≡ plan_at keys
+  plan_at-same keys view same = λ i q. (plan_at-keys_inside t q ∙ ap (λ es. option_map plan_of (lookup (bytes_eq q) es)) same ∙ sym (plan_at-keys_inside s q) ∙ ap (λ k. plan_at k q) view) i
 
   -- what is kept stays so after a change of the slots at one key
   pub IsKeySpace-set : (key : List ℕ) (w : Option Slot) → IsKeySpace s → t.moment ≡ s.moment → t.least_expiry ≤ s.least_expiry → t.spares ≡ s.spares
@@ -137,8 +137,8 @@ ForSome-some P w h = λ x at. subst P (cc at) h
 
 module _ (s t : Inside) (old : Keys) (key : List ℕ) (o w : Option Slot) where
   -- a change of one slot, as a change of what is shown at the key
-  pub entry_at-changed : (change : Option KeyEntry → Option KeyEntry) → keys_of s ≡ old → o ≡ get bytes_eq s.slots key → ((q : List ℕ) → get bytes_eq t.slots q ≡ with_key key w (get bytes_eq s.slots) q) → option_map key_entry_of w ≡ change (option_map key_entry_of o)
-      → entry_at (keys_of t) ≡ with_key key (change (entry_at old key)) (entry_at old)
+  pub entry_at-changed : (change : Option KeyEntry → Option KeyEntry) → keys_inside s ≡ old → o ≡ get bytes_eq s.slots key → ((q : List ℕ) → get bytes_eq t.slots q ≡ with_key key w (get bytes_eq s.slots) q) → option_map key_entry_of w ≡ change (option_map key_entry_of o)
+      → entry_at (keys_inside t) ≡ with_key key (change (entry_at old key)) (entry_at old)
   entry_at-changed change view found sets changed =
       entry_at-set s t old key w view sets ∙ ap (λ e. with_key key e (entry_at old)) (changed ∙ ap change (sym (entry_at-read s old key o view found)))
 
@@ -218,11 +218,11 @@ pub few_more : (u : Slot) (field : List ℕ) (number : ℤ) → ((pairs : List (
 few_more u field number few before e = omega (arith, length-with_field_le field number before, few before (ap hash_in e))
 
 -- what is prepared, once the memory for a member is spent or not
-pub plan_at-spent : (s t : Inside) (old : Keys) (key : List ℕ) (spent : Bool) → keys_of s ≡ old
+pub plan_at-spent : (s t : Inside) (old : Keys) (key : List ℕ) (spent : Bool) → keys_inside s ≡ old
     → ((q : List ℕ) → get bytes_eq t.spares q ≡ (if spent then with_key key None (get bytes_eq s.spares) else get bytes_eq s.spares) q)
-    → plan_at (keys_of t) ≡ (if spent then with_key key None (plan_at old) else plan_at old)
+    → plan_at (keys_inside t) ≡ (if spent then with_key key None (plan_at old) else plan_at old)
 plan_at-spent s t old key true view spends = plan_at-set s t old key None view spends
-plan_at-spent s t old key false view spends = λ i q. (plan_at-keys_of t q ∙ ap (option_map plan_of) (spends q) ∙ sym (plan_at-keys_of s q) ∙ ap (λ k. plan_at k q) view) i
+plan_at-spent s t old key false view spends = λ i q. (plan_at-keys_inside t q ∙ ap (option_map plan_of) (spends q) ∙ sym (plan_at-keys_inside s q) ∙ ap (λ k. plan_at k q) view) i
 
 -- a slot that is shown as before is as sound
 pub IsLiveSlot-same : (moment least : ℕ) (u : Slot) (x : Stored) → content_of x ≡ content_of u.value → IsLiveSlot moment least u → IsLiveSlot moment least (record u { value = x })
@@ -241,8 +241,8 @@ key_entries_of-set_value test (e ∷ es) u w found same = by (test e.0) found (k
     by true here rest = let one : e.1 ≡ u = cc here in ap (λ (x : KeyEntry). (e.0, x) ∷ key_entries_of es) (same ∙ ap key_entry_of (sym one))
     by false there rest = ap (λ l. (e.0, key_entry_of e.1) ∷ l) (rest there same)
 
-pub keys_of-same : (s t : Inside) → t.moment ≡ s.moment → t.spares ≡ s.spares → key_entries_of t.slots.entries ≡ key_entries_of s.slots.entries → keys_of t ≡ keys_of s
-keys_of-same s t moment spares entries = λ i. record { moment = moment i; entries = entries i; plans = plans_of (spares i).entries }
+pub keys_inside-same : (s t : Inside) → t.moment ≡ s.moment → t.spares ≡ s.spares → key_entries_of t.slots.entries ≡ key_entries_of s.slots.entries → keys_inside t ≡ keys_inside s
+keys_inside-same s t moment spares entries = λ i. record { moment = moment i; entries = entries i; plans = plans_of (spares i).entries }
 
 -- two kinds that the test finds the same are the same
 same_kind : (a b : ValueKind) → is_same_kind a b ≡ true → a ≡ b
@@ -273,7 +273,7 @@ planned kind member (Some p) e = (p, refl, same_kind kind p.kind (left (is_same_
     left false h = h
 
 -- so a hash that is there has room for a field
-pub HasRoom-planned : (s : Inside) (old : Keys) (key member : List ℕ) (u : Slot) → IsKeySpace s → keys_of s ≡ old → Some u ≡ get bytes_eq s.slots key → is_plan_for HashKind member (plan_at old key) ≡ true → HasRoom u.value
+pub HasRoom-planned : (s : Inside) (old : Keys) (key member : List ℕ) (u : Slot) → IsKeySpace s → keys_inside s ≡ old → Some u ≡ get bytes_eq s.slots key → is_plan_for HashKind member (plan_at old key) ≡ true → HasRoom u.value
 HasRoom-planned s old key member u kept view found for =
     let plan = planned HashKind member (get bytes_eq s.spares key) (ap (is_plan_for HashKind member) (sym (plan_at-read s old key _ view refl)) ∙ for) in
     let room : IsRoomFor (get bytes_eq s.slots key) plan.0.kind = (kept.ready key plan.0 plan.1).room in
@@ -328,14 +328,14 @@ IsLiveSlot-counter moment least u x number is sound = record {
 }
 
 -- memory that was taken for a key, as the spares have it
-pub planned_spare : (s : Inside) (old : Keys) (key member : List ℕ) (kind : ValueKind) → keys_of s ≡ old → is_plan_for kind member (plan_at old key) ≡ true → (p : Spare) × (get bytes_eq s.spares key ≡ Some p) × (kind ≡ p.kind)
+pub planned_spare : (s : Inside) (old : Keys) (key member : List ℕ) (kind : ValueKind) → keys_inside s ≡ old → is_plan_for kind member (plan_at old key) ≡ true → (p : Spare) × (get bytes_eq s.spares key ≡ Some p) × (kind ≡ p.kind)
 planned_spare s old key member kind view for = planned kind member (get bytes_eq s.spares key) (ap (is_plan_for kind member) (sym (plan_at-read s old key _ view refl)) ∙ for)
 
-pub IsSome-planned : (s : Inside) (old : Keys) (key member : List ℕ) (kind : ValueKind) → keys_of s ≡ old → is_plan_for kind member (plan_at old key) ≡ true → IsSome (get bytes_eq s.spares key)
+pub IsSome-planned : (s : Inside) (old : Keys) (key member : List ℕ) (kind : ValueKind) → keys_inside s ≡ old → is_plan_for kind member (plan_at old key) ≡ true → IsSome (get bytes_eq s.spares key)
 IsSome-planned s old key member kind view for = ap is_some (planned_spare s old key member kind view for).1
 
 -- the memory for a hash: no field, and room for one
-pub IsSpare-planned : (s : Inside) (old : Keys) (key member : List ℕ) (p : Spare) → IsKeySpace s → keys_of s ≡ old → is_plan_for HashKind member (plan_at old key) ≡ true → get bytes_eq s.spares key ≡ Some p → (p.hash.pairs ≡ []) × (0 < p.hash.room)
+pub IsSpare-planned : (s : Inside) (old : Keys) (key member : List ℕ) (p : Spare) → IsKeySpace s → keys_inside s ≡ old → is_plan_for HashKind member (plan_at old key) ≡ true → get bytes_eq s.spares key ≡ Some p → (p.hash.pairs ≡ []) × (0 < p.hash.room)
 IsSpare-planned s old key member p kept view for at =
     let plan = planned_spare s old key member HashKind view for in
     let same : plan.0 ≡ p = cc (plan.1, at) in
@@ -404,7 +404,7 @@ field_after_increment-full field by (Ok pairs) takes absent counts full =
     ap (number_after_increment by (nat_lt (length pairs) member_limit)) none ∙ ap (λ (b : Bool). if b then Ok by else Err TooMany) many
 
 -- where the slots are shown as before, the entries stay
-pub entry_at-same : (s t : Inside) (keys : Keys) → keys_of s ≡ keys → key_entries_of t.slots.entries ≡ key_entries_of s.slots.entries → entry_at (keys_of t) ≡ entry_at keys
+pub entry_at-same : (s t : Inside) (keys : Keys) → keys_inside s ≡ keys → key_entries_of t.slots.entries ≡ key_entries_of s.slots.entries → entry_at (keys_inside t) ≡ entry_at keys
 unfolding entry_at
 entry_at-same s t keys view same = (λ i key. lookup (bytes_eq key) (same i)) ∙ ap entry_at view
 

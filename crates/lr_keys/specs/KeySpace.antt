@@ -1,4 +1,5 @@
--- Keys with a value and an expiry or none, and what each call does to them, as the Redis command pages say.
+-- Keys with a value and an expiry or none, and what each call does to them, as the Redis command
+-- pages say.
 use Rattle.std.specs.Prelude.{◌≡◌, ◌+◌, ◌-◌, ◌≤◌, ◌<◌, ℕ, Bool, true, false, nat_lt, ◌&&◌, List, [], ◌∷◌, length, Option, Some, None, is_some, Result, Ok, Err, IsOk, ℤ, pos, negsuc, if◌then◌else◌}
 use Rattle.std.specs.Option.{ok_or, ForSome}
 use Rattle.std.specs.Str.{bytes_eq}
@@ -9,12 +10,12 @@ use Rattle.lr_keys.specs.declared.fault.KeyFault.{KeyFault}
 use Rattle.lr_keys.specs.declared.fault.KeyFault.TheVariants.{WrongKind, Overflow, TooMany, NoMemory}
 use Rattle.lr_keys.specs.declared.value_kind.ValueKind.{ValueKind}
 use Rattle.lr_keys.specs.declared.value_kind.ValueKind.TheVariants.{Hash, List as ListKind, Zset, Counter}
-use Rattle.lr_keys.specs.FieldMap.{field_value, with_field, without_field, sum_of}
-use Rattle.lr_keys.specs.Table.{with_key}
+use Rattle.lr_keys.specs.FieldMap.{Pairs, field_value, with_field, without_field, sum_of}
+use Rattle.lr_keys.specs.Table.{with_key, without_key_if}
 
 -- what a key holds: the fields of a hash in order of making, or the number of a counter
 pub data Content : Type 0 where
-  Fields : List (List ℕ × ℤ) → Content
+  Fields : Pairs → Content
   Number : ℤ → Content
 
 -- a key's value, and the moment from which on the key is gone, if any
@@ -45,12 +46,13 @@ plan_at keys key = lookup (bytes_eq key) keys.plans
 abbrev pub IsPrepared : Keys → List ℕ → ValueKind → List ℕ → Type 0
 IsPrepared keys key kind member = plan_at keys key ≡ Some (record { kind = kind; member = member })
 
--- an entry of a key that is there at the moment: its expiry lies ahead, by a lease at most, and a hash has 1 to MAX_MEMBERS fields
+-- an entry of a key that is there at the moment: its expiry lies ahead, by a lease at most, and a
+-- hash has a field at least, and no more than a key may have
 pub record IsLive (moment : ℕ) (entry : KeyEntry) : Type 0 where
   pub ahead : ForSome entry.expiry (λ expiry. moment < expiry)
   pub near : ForSome entry.expiry (λ expiry. expiry ≤ last_moment + longest_lease)
-  pub some_fields : (pairs : List (List ℕ × ℤ)) → entry.value ≡ Fields pairs → 0 < length pairs
-  pub few_fields : (pairs : List (List ℕ × ℤ)) → entry.value ≡ Fields pairs → length pairs ≤ member_limit
+  pub some_fields : (pairs : Pairs) → entry.value ≡ Fields pairs → 0 < length pairs
+  pub few_fields : (pairs : Pairs) → entry.value ≡ Fields pairs → length pairs ≤ member_limit
 
 -- each key is there at the moment, and the moment is one that a clock shows
 pub record AreLive (keys : Keys) : Type 0 where
@@ -74,12 +76,12 @@ kind_at None = None
 kind_at (Some e) = Some (kind_in e.value)
 
 -- the fields of a hash
-abbrev pub hash_in : Content → Result (List (List ℕ × ℤ)) KeyFault
+abbrev pub hash_in : Content → Result Pairs KeyFault
 hash_in (Fields pairs) = Ok pairs
 hash_in (Number _) = Err WrongKind
 
 -- the fields of the key's hash: an absent key is an empty hash (Redis command page HGETALL)
-abbrev pub hash_at : Option KeyEntry → Result (List (List ℕ × ℤ)) KeyFault
+abbrev pub hash_at : Option KeyEntry → Result Pairs KeyFault
 hash_at None = Ok []
 hash_at (Some e) = hash_in e.value
 
@@ -94,7 +96,7 @@ counter_at None = Ok None
 counter_at (Some e) = counter_in e.value
 
 -- the number of a field of a hash
-abbrev pub field_of : List ℕ → Result (List (List ℕ × ℤ)) KeyFault → Result (Option ℤ) KeyFault
+abbrev pub field_of : List ℕ → Result Pairs KeyFault → Result (Option ℤ) KeyFault
 field_of field (Ok pairs) = Ok (field_value field pairs)
 field_of field (Err fault) = Err fault
 
@@ -107,20 +109,34 @@ abbrev pub is_there : Result (Option ℤ) KeyFault → Bool
 is_there (Ok number) = is_some number
 is_there (Err _) = false
 
+-- whether the key is a hash that has the field
+abbrev pub has_field : Keys → List ℕ → List ℕ → Bool
+has_field keys key field = is_there (field_at field (entry_at keys key))
+
+-- whether the key is a counter
+abbrev pub has_counter : Keys → List ℕ → Bool
+has_counter keys key = is_there (counter_at (entry_at keys key))
+
+-- the key's hash, if it is one, has fewer fields than a key may have
+abbrev pub TakesField : Keys → List ℕ → Type 0
+TakesField keys key =
+    (pairs : Pairs) → hash_at (entry_at keys key) ≡ Ok pairs → length pairs < member_limit
+
 -- whether the number was there, as a removal says (Redis command page HDEL)
 abbrev pub found_in : Result (Option ℤ) KeyFault → Result Bool KeyFault
 found_in (Ok number) = Ok (is_some number)
 found_in (Err fault) = Err fault
 
--- what an increment makes of a number: a number that isn't there counts as 0, and a hash takes MAX_MEMBERS fields (Redis command
--- pages HINCRBY and INCRBY; the limit is this project's own)
+-- what an increment makes of a number: a number that isn't there counts as 0, and may be refused
+-- for want of room (Redis command pages HINCRBY and INCRBY; the limit is this project's own)
 abbrev pub number_after_increment : ℤ → Bool → Option ℤ → Result ℤ KeyFault
 number_after_increment by has_room (Some number) = ok_or (sum_of number by) Overflow
 number_after_increment by has_room None = if has_room then Ok by else Err TooMany
 
--- what it makes of a field of a hash
-abbrev pub field_after_increment : List ℕ → ℤ → Result (List (List ℕ × ℤ)) KeyFault → Result ℤ KeyFault
-field_after_increment field by (Ok pairs) = number_after_increment by (nat_lt (length pairs) member_limit) (field_value field pairs)
+-- what it makes of a field of a hash, which takes as many fields as a key may have members
+abbrev pub field_after_increment : List ℕ → ℤ → Result Pairs KeyFault → Result ℤ KeyFault
+field_after_increment field by (Ok pairs) =
+    number_after_increment by (nat_lt (length pairs) member_limit) (field_value field pairs)
 field_after_increment field by (Err fault) = Err fault
 
 -- and of a counter
@@ -133,12 +149,16 @@ abbrev pub content_with_field : List ℕ → ℤ → Content → Content
 content_with_field field number (Fields pairs) = Fields (with_field field number pairs)
 content_with_field field number (Number n) = Number n
 
--- the entry with this number for the field: an absent key is made with no expiry, and else the expiry stays (Redis command page HINCRBY)
+-- the entry with this number for the field: an absent key is made with no expiry, and else the
+-- expiry stays (Redis command page HINCRBY)
 abbrev pub entry_with_field : List ℕ → ℤ → Option KeyEntry → KeyEntry
-entry_with_field field number None = record { value = Fields ((field, number) ∷ []); expiry = None }
-entry_with_field field number (Some e) = record e { value = content_with_field field number e.value }
+entry_with_field field number None =
+    record { value = Fields ((field, number) ∷ []); expiry = None }
+entry_with_field field number (Some e) =
+    record e { value = content_with_field field number e.value }
 
--- the entry with this number of the counter: an absent key is made with no expiry, and else the expiry stays (Redis command page INCRBY)
+-- the entry with this number of the counter: an absent key is made with no expiry, and else the
+-- expiry stays (Redis command page INCRBY)
 abbrev pub entry_with_number : ℤ → Option KeyEntry → KeyEntry
 entry_with_number number None = record { value = Number number; expiry = None }
 entry_with_number number (Some e) = record e { value = Number number }
@@ -156,7 +176,8 @@ is_empty_hash (Number n) = false
 
 -- the entry with this value, which is none for an empty hash
 abbrev pub entry_with_value : Content → Option ℕ → Option KeyEntry
-entry_with_value value expiry = if is_empty_hash value then None else Some (record { value = value; expiry = expiry })
+entry_with_value value expiry =
+    if is_empty_hash value then None else Some (record { value = value; expiry = expiry })
 
 -- the entry without the field: a hash that becomes empty is removed (Redis command page HDEL)
 abbrev pub entry_without_field : List ℕ → Option KeyEntry → Option KeyEntry
@@ -168,17 +189,33 @@ abbrev pub entry_with_expiry : ℕ → Option KeyEntry → Option KeyEntry
 entry_with_expiry expiry None = None
 entry_with_expiry expiry (Some e) = Some (record e { expiry = Some expiry })
 
+-- at the key stands what the change makes of what stood there, and at the others what stood there
+abbrev pub ChangesEntry : Keys → Keys → List ℕ → (Option KeyEntry → Option KeyEntry) → Type 0
+ChangesEntry old new key change =
+    entry_at new ≡ with_key key (change (entry_at old key)) (entry_at old)
+
+-- the field has this number afterwards, and nothing else of the keys is changed
+abbrev pub WritesField : Keys → Keys → List ℕ → List ℕ → ℤ → Type 0
+WritesField old new key field number =
+    ChangesEntry old new key (λ e. Some (entry_with_field field number e))
+
+-- the counter has this number afterwards, and nothing else of the keys is changed
+abbrev pub WritesNumber : Keys → Keys → List ℕ → ℤ → Type 0
+WritesNumber old new key number = ChangesEntry old new key (λ e. Some (entry_with_number number e))
+
 -- the milliseconds from the moment to an expiry, and -1 for none
 abbrev pub time_to : ℕ → Option ℕ → ℤ
 time_to moment (Some expiry) = pos (expiry - moment)
 time_to moment None = negsuc 0
 
--- the milliseconds left of the key: -2 where it is absent, -1 where it has no expiry (Redis command page PTTL)
+-- the milliseconds left of the key: -2 where it is absent, -1 where it has no expiry (Redis command
+-- page PTTL)
 abbrev pub time_left : ℕ → Option KeyEntry → ℤ
 time_left moment (Some e) = time_to moment e.expiry
 time_left moment None = negsuc 1
 
--- whether a key with this expiry is there at the moment: one whose expiry is at most the moment is gone (Redis command page EXPIRE)
+-- whether a key with this expiry is there at the moment: one whose expiry is at most the moment is
+-- gone (Redis command page EXPIRE)
 abbrev pub is_ahead : ℕ → Option ℕ → Bool
 is_ahead moment (Some expiry) = nat_lt moment expiry
 is_ahead moment None = true
@@ -210,6 +247,23 @@ abbrev pub is_plan_for : ValueKind → List ℕ → Option Plan → Bool
 is_plan_for kind member (Some plan) = is_same_kind kind plan.kind && bytes_eq member plan.member
 is_plan_for kind member None = false
 
--- what is prepared once the key has the member: what was prepared for it is used up, if it wasn't there
-abbrev pub plans_after : Bool → List ℕ → ValueKind → List ℕ → (List ℕ → Option Plan) → List ℕ → Option Plan
-plans_after was_there key kind member plans = if was_there then plans else (if is_plan_for kind member (plans key) then with_key key None plans else plans)
+-- whether memory was taken for this member of the key, as a key of this kind
+abbrev pub has_plan : Keys → List ℕ → ValueKind → List ℕ → Bool
+has_plan keys key kind member = is_plan_for kind member (plan_at keys key)
+
+-- memory is taken for this member of the key, in place of what was taken for the key before
+abbrev pub TakesPlan : Keys → Keys → List ℕ → ValueKind → List ℕ → Type 0
+TakesPlan old new key kind member =
+    plan_at new ≡ with_key key (Some (record { kind = kind; member = member })) (plan_at old)
+
+-- what is prepared once the key has the member: what was prepared for it is used up, if it wasn't
+-- there
+abbrev pub plans_after : Bool → List ℕ → ValueKind → List ℕ → (List ℕ → Option Plan)
+    → List ℕ → Option Plan
+plans_after was_there key kind member plans =
+    if was_there then plans else without_key_if (is_plan_for kind member (plans key)) key plans
+
+-- the key has the member now: what was prepared for it is used up, if it wasn't there
+abbrev pub UsesPlan : Keys → Keys → Bool → List ℕ → ValueKind → List ℕ → Type 0
+UsesPlan old new was_there key kind member =
+    plan_at new ≡ plans_after was_there key kind member (plan_at old)

@@ -96,7 +96,8 @@ impl FieldMap {
         self.numbers.insert(*field, number).unwrap();
     }
 
-    /// Puts a new field last. With no room of its own for that, it takes memory, and leaves what room there was.
+    /// Puts a new field last. With no room of its own for that, it takes memory, and leaves what room
+    /// there was.
     pub(crate) fn add(
         &mut self,
         field: &Brief,

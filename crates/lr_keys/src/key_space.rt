@@ -2,7 +2,8 @@ ghost use Rattle.std.specs.Prelude.{◌≡◌, ℕ, ℤ, List, [], ◌+◌, ◌<
 ghost use Rattle.std.specs.Option.{option_copied, ForSome};
 ghost use Rattle.std.specs.Str.{bytes_eq};
 ghost use Rattle.indexmap.specs.IndexMap.{get, index_map_len, spare};
-ghost use Rattle.lr_keys.specs.KeySpace.{Answers, IsLive, IsPrepared, AreLive, entry_at, plan_at, is_plan_for, plans_after, kind_at, hash_at, counter_at, field_at, found_in, is_there, field_after_increment, counter_after_increment, entry_with_field, entry_with_number, entry_without_field, entry_with_expiry, time_left, live_entries};
+ghost use Rattle.lr_keys.specs.FieldMap.{Pairs};
+ghost use Rattle.lr_keys.specs.KeySpace.{Answers, AreLive, ChangesEntry, IsLive, IsPrepared, TakesField, TakesPlan, UsesPlan, WritesField, WritesNumber, entry_at, plan_at, has_field, has_counter, has_plan, kind_at, hash_at, counter_at, field_at, found_in, field_after_increment, counter_after_increment, entry_with_field, entry_with_number, entry_without_field, entry_with_expiry, time_left, live_entries};
 ghost use Rattle.lr_keys.specs.Table.{with_key};
 ghost use Rattle.lr_limits.specs.Limits.{last_moment, longest_lease, member_limit};
 
@@ -38,9 +39,9 @@ impl Model for KeySpace {
 
     ghost Value = { Keys };
 
-    ghost use Rattle.lr_keys.specs.Slots.{keys_of, IsKeySpace};
+    ghost use Rattle.lr_keys.specs.Slots.{keys_inside, IsKeySpace};
 
-    ghost view = { keys_of };
+    ghost view = { keys_inside };
 
     ghost invariant = { IsKeySpace };
 }
@@ -73,16 +74,19 @@ impl KeySpace {
     // What is at the key.
     fn slot(&self, key: &Brief) -> Option<&Slot>
         ensures entry { entry_at self.now key.now ≡ option_map key_entry_of (option_copied result) }
-        ensures live { ForSome (option_copied result) (λ s. IsLive self.now.moment (key_entry_of s)) }
+        ensures live { ForSome (option_copied result)
+            (λ s. IsLive self.now.moment (key_entry_of s)) }
     {
         self.slots.get(key)
     }
 
-    /// Goes on to this moment, and stays where it is earlier. Removes each key whose expiry is at most the moment.
+    /// Goes on to this moment, and stays where it is earlier. Removes each key whose expiry is at
+    /// most the moment.
     pub fn advance(&mut self, moment: u64)
         requires { moment ≤ last_moment }
         ensures moment { self.new.moment ≡ max self.old.moment moment }
-        ensures entries { entry_at self.new ≡ live_entries (max self.old.moment moment) (entry_at self.old) }
+        ensures entries { let m = max self.old.moment moment in
+            entry_at self.new ≡ live_entries m (entry_at self.old) }
         ensures live { AreLive self.new }
         ensures prepared { plan_at self.new ≡ plan_at self.old }
     {
@@ -111,7 +115,8 @@ impl KeySpace {
         }
     }
 
-    /// The milliseconds that are left of the key: -2 where it is absent, and -1 where it has no expiry.
+    /// The milliseconds that are left of the key: -2 where it is absent, and -1 where it has no
+    /// expiry.
     pub fn pttl(&self, key: &Brief) -> i64
         ensures { result ≡ time_left self.now.moment (entry_at self.now key.now) }
     {
@@ -157,7 +162,7 @@ impl KeySpace {
     /// Removes the key, and says whether it was there.
     pub fn del(&mut self, key: &Brief) -> bool
         ensures found { result ≡ is_some (entry_at self.old key.now) }
-        ensures removed { entry_at self.new ≡ with_key key.now None (entry_at self.old) }
+        ensures removed { ChangesEntry self.old self.new key.now (λ _. None) }
         ensures moment { self.new.moment ≡ self.old.moment }
         ensures prepared { plan_at self.new ≡ plan_at self.old }
         ensures absent { result ≡ false → self.new ≡ self.old }
@@ -165,13 +170,14 @@ impl KeySpace {
         self.slots.swap_remove(key).is_some()
     }
 
-    /// Sets the key's expiry to this many milliseconds from the moment, and says whether the key is there.
+    /// Sets the key's expiry to this many milliseconds from the moment, 1 to the longest lease, and
+    /// says whether the key is there.
     pub fn pexpire(&mut self, key: &Brief, millis: u64) -> bool
         requires some { 1 ≤ millis }
         requires few { millis ≤ longest_lease }
         ensures found { result ≡ is_some (entry_at self.old key.now) }
-        ensures expires { entry_at self.new
-            ≡ with_key key.now (entry_with_expiry (self.old.moment + millis) (entry_at self.old key.now)) (entry_at self.old) }
+        ensures expires { ChangesEntry self.old self.new key.now
+            (entry_with_expiry (self.old.moment + millis)) }
         ensures moment { self.new.moment ≡ self.old.moment }
         ensures prepared { plan_at self.new ≡ plan_at self.old }
         ensures absent { result ≡ false → self.new ≡ self.old }
@@ -185,11 +191,12 @@ impl KeySpace {
         true
     }
 
-    /// Adds to a field of the hash, and gives the sum. A field that isn't there counts as 0, and a key that isn't there becomes a
-    /// hash with no expiry.
+    /// Adds to a field of the hash, and gives the sum. A field that isn't there counts as 0, and a
+    /// key that isn't there becomes a hash with no expiry.
     ///
-    /// `WrongKind` where the key holds another kind, `TooMany` where the new field would be one more than a key may have, `Overflow`
-    /// where the sum leaves 64 signed bits. `NoMemory` comes only for a new field that isn't prepared.
+    /// `WrongKind` where the key holds another kind, `TooMany` where the new field would be one more
+    /// than a key may have, `Overflow` where the sum leaves 64 signed bits. `NoMemory` comes only for
+    /// a new field that isn't prepared. After an error nothing has changed.
     pub fn hincrby(
         &mut self,
         alloc: Global,
@@ -197,14 +204,15 @@ impl KeySpace {
         field: &Brief,
         by: i64,
     ) -> Result<i64, KeyFault>
-        ensures answer { Answers (λ n. n) result (field_after_increment field.now by (hash_at (entry_at self.old key.now))) }
-        ensures there { IsTrue (is_there (field_at field.now (entry_at self.old key.now)))
+        ensures answer { Answers (λ n. n) result
+            (field_after_increment field.now by (hash_at (entry_at self.old key.now))) }
+        ensures there { IsTrue (has_field self.old key.now field.now)
             → result ≢ Err KeyFault.NoMemory }
-        ensures prepared { IsPrepared self.old key.now ValueKind.Hash field.now → result ≢ Err KeyFault.NoMemory }
-        ensures written { IfOk result (λ n. entry_at self.new
-            ≡ with_key key.now (Some (entry_with_field field.now n (entry_at self.old key.now))) (entry_at self.old)) }
-        ensures plans { OnOk result (plan_at self.new
-            ≡ plans_after (is_there (field_at field.now (entry_at self.old key.now))) key.now ValueKind.Hash field.now (plan_at self.old)) }
+        ensures prepared { IsPrepared self.old key.now ValueKind.Hash field.now
+            → result ≢ Err KeyFault.NoMemory }
+        ensures written { IfOk result (λ n. WritesField self.old self.new key.now field.now n) }
+        ensures plans { let was_there = has_field self.old key.now field.now in
+            OnOk result (UsesPlan self.old self.new was_there key.now ValueKind.Hash field.now) }
         ensures moment { self.new.moment ≡ self.old.moment }
         ensures refused { OnErr result (self.new ≡ self.old) }
     {
@@ -220,18 +228,20 @@ impl KeySpace {
         Ok(by)
     }
 
-    /// Adds to the counter, and gives the sum. A key that isn't there becomes a counter with no expiry.
+    /// Adds to the counter, and gives the sum. A key that isn't there becomes a counter with no
+    /// expiry.
     ///
-    /// `WrongKind` where the key holds another kind, `Overflow` where the sum leaves 64 signed bits. `NoMemory` comes only for a new
-    /// key that isn't prepared.
+    /// `WrongKind` where the key holds another kind, `Overflow` where the sum leaves 64 signed bits.
+    /// `NoMemory` comes only for a new key that isn't prepared. After an error nothing has changed.
     pub fn incrby(&mut self, key: &Brief, by: i64) -> Result<i64, KeyFault>
-        ensures answer { Answers (λ n. n) result (counter_after_increment by (counter_at (entry_at self.old key.now))) }
-        ensures there { IsTrue (is_there (counter_at (entry_at self.old key.now))) → result ≢ Err KeyFault.NoMemory }
-        ensures prepared { IsPrepared self.old key.now ValueKind.Counter [] → result ≢ Err KeyFault.NoMemory }
-        ensures written { IfOk result (λ n. entry_at self.new
-            ≡ with_key key.now (Some (entry_with_number n (entry_at self.old key.now))) (entry_at self.old)) }
-        ensures plans { OnOk result (plan_at self.new
-            ≡ plans_after (is_there (counter_at (entry_at self.old key.now))) key.now ValueKind.Counter [] (plan_at self.old)) }
+        ensures answer { Answers (λ n. n) result
+            (counter_after_increment by (counter_at (entry_at self.old key.now))) }
+        ensures there { IsTrue (has_counter self.old key.now) → result ≢ Err KeyFault.NoMemory }
+        ensures prepared { IsPrepared self.old key.now ValueKind.Counter []
+            → result ≢ Err KeyFault.NoMemory }
+        ensures written { IfOk result (λ n. WritesNumber self.old self.new key.now n) }
+        ensures plans { let was_there = has_counter self.old key.now in
+            OnOk result (UsesPlan self.old self.new was_there key.now ValueKind.Counter []) }
         ensures moment { self.new.moment ≡ self.old.moment }
         ensures refused { OnErr result (self.new ≡ self.old) }
     {
@@ -248,11 +258,12 @@ impl KeySpace {
         Ok(by)
     }
 
-    /// Removes a field of the hash, and says whether it was there. A hash that becomes empty is removed.
+    /// Removes a field of the hash, and says whether it was there. A hash that becomes empty is
+    /// removed. `WrongKind` where the key holds another kind.
     pub fn hdel(&mut self, key: &Brief, field: &Brief) -> Result<bool, KeyFault>
         ensures answer { result ≡ found_in (field_at field.now (entry_at self.old key.now)) }
-        ensures removed { result ≡ Ok true → entry_at self.new
-            ≡ with_key key.now (entry_without_field field.now (entry_at self.old key.now)) (entry_at self.old) }
+        ensures removed { result ≡ Ok true
+            → ChangesEntry self.old self.new key.now (entry_without_field field.now) }
         ensures moment { self.new.moment ≡ self.old.moment }
         ensures prepared { plan_at self.new ≡ plan_at self.old }
         ensures absent { result ≢ Ok true → self.new ≡ self.old }
@@ -264,11 +275,12 @@ impl KeySpace {
         Ok(true)
     }
 
-    /// Takes the memory for this new member of the key, as a key of this kind, and for the key itself. For a counter the member is
-    /// empty.
+    /// Takes the memory for this new member of the key, as a key of this kind, and for the key
+    /// itself. For a counter the member is empty. After an error nothing has changed.
     ///
-    /// Until the next [`settle`](KeySpace::settle) the first call that makes the member finds that memory, whatever was removed
-    /// before. A key has one member prepared: a second call for the key replaces the first.
+    /// Until the next [`settle`](KeySpace::settle) the first call that makes the member finds that
+    /// memory, whatever was removed before. A key has one member prepared: a second call for the key
+    /// replaces the first.
     pub fn prepare(
         &mut self,
         alloc: Global,
@@ -276,8 +288,7 @@ impl KeySpace {
         kind: ValueKind,
         member: &Brief,
     ) -> Result<(), AllocError>
-        ensures prepared { OnOk result (plan_at self.new
-            ≡ with_key key.now (Some (record { kind = kind; member = member.now })) (plan_at self.old)) }
+        ensures prepared { OnOk result (TakesPlan self.old self.new key.now kind member.now) }
         ensures entries { entry_at self.new ≡ entry_at self.old }
         ensures moment { self.new.moment ≡ self.old.moment }
         ensures err { OnErr result (self.new ≡ self.old) }
@@ -300,7 +311,7 @@ impl KeySpace {
 
     // How many fields the hash has.
     fn fields(&self, key: &Brief) -> usize
-        ensures { (pairs : List (List ℕ × ℤ)) → hash_at (entry_at self.now key.now) ≡ Ok pairs
+        ensures { (pairs : Pairs) → hash_at (entry_at self.now key.now) ≡ Ok pairs
             → result ≡ length pairs }
     {
         match self.slot(key) {
@@ -311,7 +322,7 @@ impl KeySpace {
 
     // Whether the hash has fewer fields than a key may have.
     fn takes_field(&self, key: &Brief) -> bool
-        ensures { (pairs : List (List ℕ × ℤ)) → hash_at (entry_at self.now key.now) ≡ Ok pairs
+        ensures { (pairs : Pairs) → hash_at (entry_at self.now key.now) ≡ Ok pairs
             → result ≡ nat_lt (length pairs) member_limit }
     {
         self.fields(key) < MOST_MEMBERS
@@ -325,14 +336,13 @@ impl KeySpace {
         field: &Brief,
         number: i64,
     ) -> Result<(), AllocError>
-        requires { (pairs : List (List ℕ × ℤ)) → hash_at (entry_at self.old key.now) ≡ Ok pairs
-            → length pairs < member_limit }
-        ensures entry { OnOk result (entry_at self.new
-            ≡ with_key key.now (Some (entry_with_field field.now number (entry_at self.old key.now))) (entry_at self.old)) }
+        requires { TakesField self.old key.now }
+        ensures entry { OnOk result (WritesField self.old self.new key.now field.now number) }
         ensures moment { self.new.moment ≡ self.old.moment }
-        ensures prepared { OnOk result (plan_at self.new
-            ≡ plans_after false key.now ValueKind.Hash field.now (plan_at self.old)) }
-        ensures succeeds { IsTrue (is_plan_for ValueKind.Hash field.now (plan_at self.old key.now)) → IsOk result }
+        ensures prepared { OnOk result
+            (UsesPlan self.old self.new false key.now ValueKind.Hash field.now) }
+        ensures succeeds { IsTrue (has_plan self.old key.now ValueKind.Hash field.now)
+            → IsOk result }
         ensures err { OnErr result (self.new ≡ self.old) }
     {
         let prepared = self.is_prepared(key, ValueKind::Hash, field);
@@ -348,7 +358,7 @@ impl KeySpace {
 
     // Whether memory for this member of the key is there.
     fn is_prepared(&self, key: &Brief, kind: ValueKind, member: &Brief) -> bool
-        ensures { result ≡ is_plan_for kind member.now (plan_at self.now key.now) }
+        ensures { result ≡ has_plan self.now key.now kind member.now }
     {
         match self.spares.get(key) {
             Some(spare) => spare.is_for(kind, member),
@@ -358,9 +368,8 @@ impl KeySpace {
 
     // Writes a field that is there.
     fn write_field(&mut self, key: &Brief, field: &Brief, number: i64)
-        requires { IsTrue (is_there (field_at field.now (entry_at self.old key.now))) }
-        ensures entry { entry_at self.new
-            ≡ with_key key.now (Some (entry_with_field field.now number (entry_at self.old key.now))) (entry_at self.old) }
+        requires { IsTrue (has_field self.old key.now field.now) }
+        ensures entry { WritesField self.old self.new key.now field.now number }
         ensures moment { self.new.moment ≡ self.old.moment }
         ensures prepared { plan_at self.new ≡ plan_at self.old }
     {
@@ -377,14 +386,12 @@ impl KeySpace {
         prepared: bool,
     ) -> Result<(), AllocError>
         requires there { IsSome (entry_at self.old key.now) }
-        requires few { (pairs : List (List ℕ × ℤ)) → hash_at (entry_at self.old key.now) ≡ Ok pairs
-            → length pairs < member_limit }
-        requires prepared { prepared ≡ is_plan_for ValueKind.Hash field.now (plan_at self.old key.now) }
-        ensures entry { OnOk result (entry_at self.new
-            ≡ with_key key.now (Some (entry_with_field field.now number (entry_at self.old key.now))) (entry_at self.old)) }
+        requires few { TakesField self.old key.now }
+        requires prepared { prepared ≡ has_plan self.old key.now ValueKind.Hash field.now }
+        ensures entry { OnOk result (WritesField self.old self.new key.now field.now number) }
         ensures moment { self.new.moment ≡ self.old.moment }
-        ensures prepared { OnOk result (plan_at self.new
-            ≡ plans_after false key.now ValueKind.Hash field.now (plan_at self.old)) }
+        ensures prepared { OnOk result
+            (UsesPlan self.old self.new false key.now ValueKind.Hash field.now) }
         ensures succeeds { IsTrue prepared → IsOk result }
         ensures err { OnErr result (self.new ≡ self.old) }
     {
@@ -399,8 +406,8 @@ impl KeySpace {
         requires absent { entry_at self.old key.now ≡ None }
         requires live { IsLive self.old.moment (key_entry_of (new_slot value)) }
         requires room { HasRoom value }
-        ensures entry { OnOk result (entry_at self.new
-            ≡ with_key key.now (Some (key_entry_of (new_slot value))) (entry_at self.old)) }
+        ensures entry { OnOk result (ChangesEntry self.old self.new key.now
+            (λ _. Some (key_entry_of (new_slot value)))) }
         ensures moment { self.new.moment ≡ self.old.moment }
         ensures prepared { plan_at self.new ≡ plan_at self.old }
         ensures err { OnErr result (self.new ≡ self.old) }
@@ -419,8 +426,8 @@ impl KeySpace {
         number: i64,
     ) -> Result<(), AllocError>
         requires absent { entry_at self.old key.now ≡ None }
-        ensures entry { OnOk result (entry_at self.new
-            ≡ with_key key.now (Some (entry_with_field field.now number None)) (entry_at self.old)) }
+        ensures entry { OnOk result (ChangesEntry self.old self.new key.now
+            (λ _. Some (entry_with_field field.now number None))) }
         ensures moment { self.new.moment ≡ self.old.moment }
         ensures prepared { plan_at self.new ≡ plan_at self.old }
         ensures err { OnErr result (self.new ≡ self.old) }
@@ -433,9 +440,9 @@ impl KeySpace {
     // Makes a hash with one field, of the memory that was taken for that.
     fn use_hash(&mut self, key: &Brief, field: &Brief, number: i64)
         requires absent { entry_at self.old key.now ≡ None }
-        requires prepared { IsTrue (is_plan_for ValueKind.Hash field.now (plan_at self.old key.now)) }
-        ensures entry { entry_at self.new
-            ≡ with_key key.now (Some (entry_with_field field.now number None)) (entry_at self.old) }
+        requires prepared { IsTrue (has_plan self.old key.now ValueKind.Hash field.now) }
+        ensures entry { ChangesEntry self.old self.new key.now
+            (λ _. Some (entry_with_field field.now number None)) }
         ensures moment { self.new.moment ≡ self.old.moment }
         ensures prepared { plan_at self.new ≡ with_key key.now None (plan_at self.old) }
     {
@@ -448,8 +455,9 @@ impl KeySpace {
     // Makes a counter, of the memory that was taken for that.
     fn use_counter(&mut self, key: &Brief, number: i64)
         requires absent { entry_at self.old key.now ≡ None }
-        requires prepared { IsTrue (is_plan_for ValueKind.Counter [] (plan_at self.old key.now)) }
-        ensures entry { entry_at self.new ≡ with_key key.now (Some (entry_with_number number None)) (entry_at self.old) }
+        requires prepared { IsTrue (has_plan self.old key.now ValueKind.Counter []) }
+        ensures entry { ChangesEntry self.old self.new key.now
+            (λ _. Some (entry_with_number number None)) }
         ensures moment { self.new.moment ≡ self.old.moment }
         ensures prepared { plan_at self.new ≡ with_key key.now None (plan_at self.old) }
     {
@@ -459,9 +467,8 @@ impl KeySpace {
 
     // Writes a counter that is there.
     fn write_counter(&mut self, key: &Brief, number: i64)
-        requires { IsTrue (is_there (counter_at (entry_at self.old key.now))) }
-        ensures entry { entry_at self.new
-            ≡ with_key key.now (Some (entry_with_number number (entry_at self.old key.now))) (entry_at self.old) }
+        requires { IsTrue (has_counter self.old key.now) }
+        ensures entry { WritesNumber self.old self.new key.now number }
         ensures moment { self.new.moment ≡ self.old.moment }
         ensures prepared { plan_at self.new ≡ plan_at self.old }
     {
@@ -471,9 +478,8 @@ impl KeySpace {
 
     // Removes a field that is there, and with the last one the key.
     fn remove_field(&mut self, key: &Brief, field: &Brief)
-        requires { IsTrue (is_there (field_at field.now (entry_at self.old key.now))) }
-        ensures entry { entry_at self.new
-            ≡ with_key key.now (entry_without_field field.now (entry_at self.old key.now)) (entry_at self.old) }
+        requires { IsTrue (has_field self.old key.now field.now) }
+        ensures entry { ChangesEntry self.old self.new key.now (entry_without_field field.now) }
         ensures moment { self.new.moment ≡ self.old.moment }
         ensures prepared { plan_at self.new ≡ plan_at self.old }
     {

@@ -1,8 +1,9 @@
 //! A key space as a Redis user knows it: keys with a value, and an expiry or none.
 //!
-//! A contract sees a [`KeySpace`] as a moment and two tables. `entry_at` says what stands at a key: the fields of a
-//! hash in order of making, or the number of a counter, and the expiry. `plan_at` says for which new member of a
-//! key memory is prepared. Nothing that a contract says depends on an order among the keys.
+//! A contract sees a [`KeySpace`] as a moment and two tables. `entry_at` says what stands at a key:
+//! the fields of a hash in order of making, or the number of a counter, and the expiry. `plan_at`
+//! says for which new member of a key memory is prepared. Nothing that a contract says depends on an
+//! order among the keys.
 #![tactic(auto)]
 
 mod fault;

@@ -1,4 +1,5 @@
 ghost use Rattle.std.specs.Prelude.{◌≡◌, ℕ, ℤ, List, [], length, false, IsTrue, IsOk, IfOk, OnOk, OnErr};
+ghost use Rattle.lr_keys.specs.FieldMap.{Pairs};
 ghost use Rattle.lr_keys.specs.KeySpace.{Answers, Number, kind_in, hash_in, field_of, is_there, counter_in, content_with_field, content_without_field, is_empty_hash, is_plan_for};
 ghost use Rattle.lr_keys.specs.Slots.{content_of, plan_of, HasRoom, IsSpareFor};
 
@@ -70,7 +71,8 @@ impl Stored {
 
     /// How many fields there are.
     pub(crate) fn fields(&self) -> usize
-        ensures { (pairs : List (List ℕ × ℤ)) → hash_in (content_of self.now) ≡ Ok pairs → result ≡ length pairs }
+        ensures { (pairs : Pairs) → hash_in (content_of self.now) ≡ Ok pairs
+            → result ≡ length pairs }
     {
         match self {
             Stored::Hash(fields) => fields.len(),
@@ -93,7 +95,8 @@ impl Stored {
     /// Writes a field of a hash that has it.
     pub(crate) fn write_field(&mut self, field: &Brief, number: i64)
         requires { IsTrue (is_there (field_of field.now (hash_in (content_of self.old)))) }
-        ensures value { content_of self.new ≡ content_with_field field.now number (content_of self.old) }
+        ensures value { content_of self.new
+            ≡ content_with_field field.now number (content_of self.old) }
         ensures room { HasRoom self.old → HasRoom self.new }
     {
         match self {
@@ -113,7 +116,8 @@ impl Stored {
         }
     }
 
-    /// Puts a new field last in a hash. With no room of its own for that, it takes memory, and leaves what room there was.
+    /// Puts a new field last in a hash. With no room of its own for that, it takes memory, and leaves
+    /// what room there was.
     pub(crate) fn add_field(
         &mut self,
         field: &Brief,
@@ -121,7 +125,8 @@ impl Stored {
         has_room: bool,
     ) -> Result<(), AllocError>
         requires { IsTrue has_room → HasRoom self.old }
-        ensures ok { OnOk result (content_of self.new ≡ content_with_field field.now number (content_of self.old)) }
+        ensures ok { OnOk result (content_of self.new
+            ≡ content_with_field field.now number (content_of self.old)) }
         ensures err { OnErr result (content_of self.new ≡ content_of self.old) }
         ensures succeeds { IsTrue has_room → IsOk result }
         ensures room { has_room ≡ false → HasRoom self.old → HasRoom self.new }
@@ -134,7 +139,8 @@ impl Stored {
 
     /// Removes a field of a hash, and says whether it was the last one.
     pub(crate) fn remove_field(&mut self, field: &Brief) -> bool
-        ensures value { content_of self.new ≡ content_without_field field.now (content_of self.old) }
+        ensures value { content_of self.new
+            ≡ content_without_field field.now (content_of self.old) }
         ensures empty { result ≡ is_empty_hash (content_of self.new) }
         ensures room { HasRoom self.old → HasRoom self.new }
     {

@@ -5,7 +5,7 @@ ghost use Rattle.indexmap.specs.IndexMap.{get, index_map_len, spare, values};
 ghost use Rattle.lr_keys.specs.Slots.{KeepsSlot, IsRoomFor, least_of, live_slot, new_slot, key_entries_of, sooner_of};
 ghost use Rattle.lr_keys.specs.KeySpace.{is_ahead};
 ghost use Rattle.std.specs.Option.{ForSome};
-ghost use Rattle.lr_keys.specs.Table.{with_key};
+ghost use Rattle.lr_keys.specs.Table.{WritesKey, without_key_if};
 
 use super::slot::{Slot, Spare, Stored};
 use super::value_kind::ValueKind;
@@ -16,7 +16,7 @@ use std::alloc::AllocError;
 // Takes a key out of a table, if it is to go.
 pub(crate) fn remove_if<T: Drop>(table: &mut IndexMap<Brief, T>, key: &Brief, gone: bool)
     ensures table { (q : List ℕ) → get bytes_eq table.new q
-        ≡ (if gone then with_key key.now None (get bytes_eq table.old) else get bytes_eq table.old) q }
+        ≡ without_key_if gone key.now (get bytes_eq table.old) q }
     ensures fewer { index_map_len table.new ≤ index_map_len table.old }
     ensures room { spare table.old ≤ spare table.new }
 {
@@ -29,7 +29,7 @@ pub(crate) fn remove_if<T: Drop>(table: &mut IndexMap<Brief, T>, key: &Brief, go
 pub(crate) fn take_spare(spares: &mut IndexMap<Brief, Spare>, key: &Brief) -> Spare
     requires { IsSome (get bytes_eq spares.old key.now) }
     ensures spare { get bytes_eq spares.old key.now ≡ Some result }
-    ensures spares { (q : List ℕ) → get bytes_eq spares.new q ≡ with_key key.now None (get bytes_eq spares.old) q }
+    ensures spares { WritesKey (get bytes_eq spares.old) (get bytes_eq spares.new) key.now None }
     ensures fewer { index_map_len spares.new + 1 ≡ index_map_len spares.old }
 {
     spares.swap_remove(key).unwrap()
@@ -38,7 +38,7 @@ pub(crate) fn take_spare(spares: &mut IndexMap<Brief, Spare>, key: &Brief) -> Sp
 // Gives up the memory that was taken for the key.
 pub(crate) fn drop_spare(spares: &mut IndexMap<Brief, Spare>, key: &Brief)
     requires { IsSome (get bytes_eq spares.old key.now) }
-    ensures spares { (q : List ℕ) → get bytes_eq spares.new q ≡ with_key key.now None (get bytes_eq spares.old) q }
+    ensures spares { WritesKey (get bytes_eq spares.old) (get bytes_eq spares.new) key.now None }
     ensures fewer { index_map_len spares.new + 1 ≡ index_map_len spares.old }
 {
     let _spare = take_spare(spares, key);
@@ -77,8 +77,8 @@ fn make_hash_room(slots: &mut IndexMap<Brief, Slot>, key: &Brief) -> Result<(), 
 // Puts a new key last, for which there is room.
 pub(crate) fn insert_slot(slots: &mut IndexMap<Brief, Slot>, key: &Brief, value: Stored)
     requires { 0 < spare slots.old }
-    ensures slots { (q : List ℕ) → get bytes_eq slots.new q
-        ≡ with_key key.now (Some (new_slot value)) (get bytes_eq slots.old) q }
+    ensures slots { let slot = new_slot value in
+        WritesKey (get bytes_eq slots.old) (get bytes_eq slots.new) key.now (Some slot) }
     ensures room { spare slots.old ≤ spare slots.new + 1 }
 {
     let slot = Slot {
@@ -119,9 +119,10 @@ fn least_expiry(slots: &IndexMap<Brief, Slot>) -> u64
 
 // Removes the keys that are gone at the moment, and gives a moment before which no other expires.
 pub(crate) fn remove_gone(slots: &mut IndexMap<Brief, Slot>, moment: u64) -> u64
-    ensures slots { (q : List ℕ) → get bytes_eq slots.new q ≡ live_slot moment (get bytes_eq slots.old q) }
-    ensures bound { (q : List ℕ)
-        → ForSome (get bytes_eq slots.new q) (λ slot. ForSome slot.expiry (λ expiry. result ≤ expiry)) }
+    ensures slots { (q : List ℕ)
+        → get bytes_eq slots.new q ≡ live_slot moment (get bytes_eq slots.old q) }
+    ensures bound { (q : List ℕ) → ForSome (get bytes_eq slots.new q)
+        (λ slot. ForSome slot.expiry (λ expiry. result ≤ expiry)) }
     ensures room { spare slots.old ≤ spare slots.new }
 {
     // `len` is called for its clause that the keys differ, which the proof cites.

@@ -9,7 +9,7 @@ use Rattle.lr_keys.specs.declared.slot.Slot.{Slot}
 use Rattle.lr_keys.specs.KeySpace.{plan_at, hash_at, hash_in, content_with_field, entry_with_field}
 use Rattle.lr_keys.specs.Slots.{IsLiveSlot, key_entries_of, content_of}
 use Rattle.lr_keys.specs.Table.{with_key}
-use Rattle.lr_keys.proofs.SlotLemmas.{ForSome-some, HasRoom-planned, IsKeySpace-grown, IsKeySpace-set, IsRoomFor-some, IsSome-lent, IsLiveSlot-same, IsLiveSlot-with_field, OnErr-always, entry_at-changed, entry_at-read, false_from_err, few_more, is_some-entry_at, plan_at-spent, sets_written, key_entries_of-set_value, keys_of-same}
+use Rattle.lr_keys.proofs.SlotLemmas.{ForSome-some, HasRoom-planned, IsKeySpace-grown, IsKeySpace-set, IsRoomFor-some, IsSome-lent, IsLiveSlot-same, IsLiveSlot-with_field, OnErr-always, entry_at-changed, entry_at-read, false_from_err, few_more, is_some-entry_at, plan_at-spent, sets_written, key_entries_of-set_value, keys_inside-same}
 use Rattle.lr_keys.proofs.key_space.KeySpace.add_field.Goals as goal
 
 pub unwrap-slot-requires : goal.unwrap-slot-requires
@@ -50,7 +50,7 @@ returns-in_err-add_field-clause-err c =
     let u = c.unwrap-slot.result.now in
     let same = ap (λ v. record { value = v; expiry = u.expiry }) c.in_err-add_field.ensures.err in
     let entries = ap key_entries_of (c.get_mut.follows.holds (slot_kept c)).0 ∙ key_entries_of-set_value (bytes_eq c.args.key.now) c.self.inside.slots.entries u (slot_kept c) (sym (was c)) same in
-    OnErr-always c.from_residual.result (keys_of-same c.self.inside (kept c) refl refl entries ∙ c.self.view_is)
+    OnErr-always c.from_residual.result (keys_inside-same c.self.inside (kept c) refl refl entries ∙ c.self.view_is)
 
 -- the slot and the fields after the call
 abbrev slot_after : goal.After-remove_if → Slot

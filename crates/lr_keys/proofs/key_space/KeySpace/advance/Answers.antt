@@ -2,7 +2,7 @@ use Rattle.std.proofs.Common.{◌≤◌, max, refl, ap, ◌∙◌, arith}
 use Rattle.lr_limits.specs.Limits.{last_moment}
 use Rattle.lr_keys.specs.declared.key_space.KeySpace.TheInside.{Inside}
 use Rattle.lr_keys.specs.KeySpace.{entry_at, live_entries}
-use Rattle.lr_keys.proofs.SlotLemmas.{AreLive-keys_of, plan_at-same}
+use Rattle.lr_keys.proofs.SlotLemmas.{AreLive-keys_inside, plan_at-same}
 use Rattle.lr_keys.proofs.LiveLemmas.{IsKeySpace-live, entry_at-live, live_before_bound}
 use Rattle.lr_keys.proofs.key_space.KeySpace.advance.Goals as goal
 
@@ -48,9 +48,9 @@ returns-clause-prepared c =
     plan_at-same c.self.inside (record c.self.inside { moment = c.max-moment.result; least_expiry = gone.result; slots = gone.new.slots }) c.args.self.now c.self.view_is refl
 
 pub returns-then-moment-self-clause-live : goal.returns-then-moment-self-clause-live
-returns-then-moment-self-clause-live c = AreLive-keys_of (record c.self.inside { moment = c.max-moment.result }) (invariant_of-self c)
+returns-then-moment-self-clause-live c = AreLive-keys_inside (record c.self.inside { moment = c.max-moment.result }) (invariant_of-self c)
 
 pub returns-clause-live : goal.returns-clause-live
 returns-clause-live c =
     let gone = c.remove_gone-self-inside in
-    AreLive-keys_of (record c.self.inside { moment = c.max-moment.result; least_expiry = gone.result; slots = gone.new.slots }) (invariant_of-self-2 c)
+    AreLive-keys_inside (record c.self.inside { moment = c.max-moment.result; least_expiry = gone.result; slots = gone.new.slots }) (invariant_of-self-2 c)

@@ -3,7 +3,7 @@ use Rattle.lr_keys.specs.declared.key_space.KeySpace.TheInside.{Inside}
 use Rattle.lr_limits.specs.Limits.{last_moment}
 use Rattle.lr_keys.specs.declared.slot.Slot.{Slot}
 use Rattle.lr_keys.specs.KeySpace.{entry_at, entry_with_expiry}
-use Rattle.lr_keys.specs.Slots.{IsLiveSlot, key_entry_of, keys_of}
+use Rattle.lr_keys.specs.Slots.{IsLiveSlot, key_entry_of, keys_inside}
 use Rattle.lr_keys.specs.Table.{with_key}
 use Rattle.lr_keys.proofs.TableLaws.{with_key-absent}
 use Rattle.lr_keys.proofs.SlotLemmas.{ForSome-some, entry_at-read, entry_at-set, is_some-entry_at, plan_at-same, sets_written, IsKeySpace-set, IsRoomFor-some, IsLiveSlot-expiring}
@@ -24,7 +24,7 @@ returns-in_default-clause-expires c =
     let old = c.args.self.now in
     let key = c.args.key.now in
     let absent = entry_at-read c.self.inside old key None c.self.view_is c.in_default.ensures.value in
-    ap (λ m. entry_at (keys_of (record c.self.inside { slots = m }))) c.get_mut.follows.holds-at-none
+    ap (λ m. entry_at (keys_inside (record c.self.inside { slots = m }))) c.get_mut.follows.holds-at-none
     ∙ ap entry_at c.self.view_is
     ∙ sym (with_key-absent key (entry_at old) absent)
     ∙ sym (ap (λ o. with_key key (entry_with_expiry (old.moment + c.args.millis) o) (entry_at old)) absent)
