@@ -73,10 +73,10 @@ pub record IsLiveSlot (moment least : ℕ) (slot : Slot) : Type 0 where
 pub record IsKeySpace (s : Inside) : Type 0 where
   pub moment : s.moment ≤ last_moment
   pub slots : (key : List ℕ)
-    → ForSome (get bytes_eq s.slots key) (IsLiveSlot s.moment s.least_expiry)
+      → ForSome (get bytes_eq s.slots key) (IsLiveSlot s.moment s.least_expiry)
   pub room : index_map_len s.spares ≤ spare s.slots
   pub ready : (key : List ℕ)
-    → ForSome (get bytes_eq s.spares key) (IsReadySpare (get bytes_eq s.slots key))
+      → ForSome (get bytes_eq s.spares key) (IsReadySpare (get bytes_eq s.slots key))
 
 -- a slot of a new key
 abbrev pub new_slot : Stored → Slot

@@ -20,77 +20,99 @@ fn counts(
     keys.hincrby(alloc, hash, field, by) == Ok(sum) && keys.hget(hash, field) == Ok(Some(sum))
 }
 
+// Whether these are the fields of a hash.
+fn has_fields(alloc: Global, keys: &KeySpace, hash: &Brief, fields: &[(Brief, i64)]) -> bool {
+    match keys.hgetall(alloc, hash) {
+        Ok(found) => found.as_slice() == fields && keys.kind_of(hash) == Some(ValueKind::Hash),
+        Err(_) => false,
+    }
+}
+
+// Whether a field that isn't there counts as 0, and the fields stay in order of making.
+fn fields_count(
+    alloc: Global,
+    keys: &mut KeySpace,
+    hash: &Brief,
+    one: &Brief,
+    two: &Brief,
+) -> bool {
+    counts(alloc, keys, hash, one, 5, 5)
+        && counts(alloc, keys, hash, two, -1, -1)
+        && counts(alloc, keys, hash, one, -7, -2)
+        && has_fields(alloc, keys, hash, &[(*one, -2), (*two, -1)])
+}
+
 // Whether a removal answers so, and leaves the hash there or not.
 fn removes(keys: &mut KeySpace, hash: &Brief, field: &Brief, removed: bool, exists: bool) -> bool {
     keys.hdel(hash, field) == Ok(removed) && keys.exists(hash) == exists
 }
 
-// Whether these are the fields of a hash.
-fn has_fields(
-    alloc: Global,
-    keys: &KeySpace,
-    hash: &Brief,
-    fields: &[(Brief, i64)],
-) -> Result<bool, KeyFault> {
-    let found = keys.hgetall(alloc, hash)?;
-    Ok(keys.kind_of(hash) == Some(ValueKind::Hash) && found.as_slice() == fields)
+// Whether a hash goes with its last field.
+fn goes_when_empty(keys: &mut KeySpace, hash: &Brief, one: &Brief, two: &Brief) -> bool {
+    removes(keys, hash, one, true, true)
+        && removes(keys, hash, one, false, true)
+        && removes(keys, hash, two, true, false)
 }
 
-// A field that isn't there counts as 0, the fields stay in order of making, and a hash goes with its last field.
 #[test]
 fn hashes(rt: HostRuntime) -> Result<(), Fail> {
     let mut keys = KeySpace::new(rt.alloc())?;
     let (hash, one, two) = (brief(b"hash"), brief(b"one"), brief(b"two"));
-    for (field, by, sum) in [(one, 5, 5), (two, -1, -1), (one, -7, -2)] {
-        assert!(rt; counts(rt.alloc(), &mut keys, &hash, &field, by, sum));
-    }
-    assert!(rt; has_fields(rt.alloc(), &keys, &hash, &[(one, -2), (two, -1)])?);
-    for (field, removed, exists) in [(one, true, true), (one, false, true), (two, true, false)] {
-        assert!(rt; removes(&mut keys, &hash, &field, removed, exists));
-    }
+    let counted = fields_count(rt.alloc(), &mut keys, &hash, &one, &two);
+    assert!(rt; counted && goes_when_empty(&mut keys, &hash, &one, &two));
     Ok(())
 }
 
-// Whether a hash and a counter refuse what they can't take, and stay as they were.
-fn refuses(alloc: Global, keys: &mut KeySpace, hash: &Brief, counter: &Brief, one: &Brief) -> bool {
-    let overflow = keys.incrby(counter, 1) == Err(KeyFault::Overflow);
-    let of_hash = keys.incrby(hash, 1) == Err(KeyFault::WrongKind);
-    let of_counter = keys.hincrby(alloc, counter, one, 1) == Err(KeyFault::WrongKind);
-    let same = keys.get(counter) == Ok(Some(i64::MAX)) && keys.hget(hash, one) == Ok(Some(1));
-    overflow && of_hash && of_counter && same
+// Makes a hash with a field of 1, and a counter with the greatest number.
+fn make(alloc: Global, keys: &mut KeySpace, hash: &Brief, field: &Brief, counter: &Brief) -> bool {
+    keys.hincrby(alloc, hash, field, 1) == Ok(1) && keys.incrby(counter, i64::MAX) == Ok(i64::MAX)
+}
+
+// Whether a hash and a counter refuse what they can't take.
+fn refuses(alloc: Global, keys: &mut KeySpace, hash: &Brief, one: &Brief, counter: &Brief) -> bool {
+    keys.incrby(counter, 1) == Err(KeyFault::Overflow)
+        && keys.incrby(hash, 1) == Err(KeyFault::WrongKind)
+        && keys.hincrby(alloc, counter, one, 1) == Err(KeyFault::WrongKind)
+}
+
+// Whether they are as they were made.
+fn are_as_made(keys: &KeySpace, hash: &Brief, one: &Brief, counter: &Brief) -> bool {
+    keys.get(counter) == Ok(Some(i64::MAX)) && keys.hget(hash, one) == Ok(Some(1))
 }
 
 #[test]
 fn refusals(rt: HostRuntime) -> Result<(), Fail> {
     let mut keys = KeySpace::new(rt.alloc())?;
-    let (hash, counter, one) = (brief(b"hash"), brief(b"counter"), brief(b"one"));
-    let made = keys.hincrby(rt.alloc(), &hash, &one, 1);
-    let counted = keys.incrby(&counter, i64::MAX);
-    assert!(rt; made == Ok(1) && counted == Ok(i64::MAX));
-    assert!(rt; refuses(rt.alloc(), &mut keys, &hash, &counter, &one));
+    let (hash, one, counter) = (brief(b"hash"), brief(b"one"), brief(b"counter"));
+    let made = make(rt.alloc(), &mut keys, &hash, &one, &counter);
+    let refused = refuses(rt.alloc(), &mut keys, &hash, &one, &counter);
+    assert!(rt; made && refused && are_as_made(&keys, &hash, &one, &counter));
     Ok(())
 }
 
-// Whether so much is left of two keys at a moment.
-fn are_left(keys: &mut KeySpace, moment: u64, first: (&Brief, i64), second: (&Brief, i64)) -> bool {
+// Whether a key has so many milliseconds left at a moment.
+fn has_left(keys: &mut KeySpace, moment: u64, key: &Brief, millis: i64) -> bool {
     keys.advance(moment.min(LAST_MOMENT));
-    keys.pttl(first.0) == first.1 && keys.pttl(second.0) == second.1
+    keys.pttl(key) == millis
 }
 
-// -2 for an absent key, -1 for one with no expiry, and else what is left: at its expiry a key is gone.
+// Whether a key that was given 500 milliseconds at 1,000 is gone from 1,500 on, and no moment passes
+// backwards.
+fn expires(keys: &mut KeySpace, lock: &Brief) -> bool {
+    has_left(keys, 1_000, lock, -1)
+        && keys.pexpire(lock, 500)
+        && has_left(keys, 1_499, lock, 1)
+        && has_left(keys, 1_500, lock, -2)
+        && has_left(keys, 7, lock, -2)
+        && keys.moment() == 1_500
+}
+
 #[test]
 fn expiry(rt: HostRuntime) -> Result<(), Fail> {
     let mut keys = KeySpace::new(rt.alloc())?;
     let (lock, lasting) = (brief(b"lock"), brief(b"lasting"));
-    for key in [lock, lasting] {
-        assert!(rt; keys.incrby(&key, 3) == Ok(3));
-    }
-    keys.advance(1_000);
-    assert!(rt; keys.pexpire(&lock, 500));
-    for (moment, of_lock, of_lasting) in [(1_499, 1, -1), (1_500, -2, -1), (7, -2, -1)] {
-        assert!(rt; are_left(&mut keys, moment, (&lock, of_lock), (&lasting, of_lasting)));
-    }
-    assert_eq!(rt; keys.moment(), 1_500);
+    let made = keys.incrby(&lock, 3) == Ok(3) && keys.incrby(&lasting, 3) == Ok(3);
+    assert!(rt; made && expires(&mut keys, &lock) && keys.pttl(&lasting) == -1);
     Ok(())
 }
 
@@ -106,18 +128,22 @@ fn prepare(
     keys.prepare(alloc, number, ValueKind::Counter, &Brief::new())
 }
 
-// What was prepared serves the first call that makes the member, though the key was made and removed before.
+// Whether what was prepared serves the first call that makes the member, though the key was made and
+// removed before.
+fn serves(alloc: Global, keys: &mut KeySpace, lock: &Brief, owner: &Brief, number: &Brief) -> bool {
+    keys.hincrby(alloc, lock, number, 1) == Ok(1)
+        && keys.del(lock)
+        && counts(alloc, keys, lock, owner, 1, 1)
+        && keys.incrby(number, 3) == Ok(3)
+}
+
 #[test]
 fn prepared_memory(rt: HostRuntime) -> Result<(), Fail> {
     let mut keys = KeySpace::new(rt.alloc())?;
-    let (lock, number) = (brief(b"lock"), brief(b"number"));
-    let owner = brief(b"owner");
+    let (lock, owner, number) = (brief(b"lock"), brief(b"owner"), brief(b"number"));
     prepare(rt.alloc(), &mut keys, &lock, &owner, &number)?;
-    let other = keys.hincrby(rt.alloc(), &lock, &brief(b"other"), 1);
-    let removed = keys.del(&lock);
-    assert!(rt; other == Ok(1) && removed);
-    assert!(rt; counts(rt.alloc(), &mut keys, &lock, &owner, 1, 1));
-    assert!(rt; keys.incrby(&number, 3) == Ok(3));
+    let served = serves(rt.alloc(), &mut keys, &lock, &owner, &number);
     keys.settle();
+    assert!(rt; served && keys.get(&number) == Ok(Some(3)));
     Ok(())
 }
