@@ -1,5 +1,5 @@
--- The keys that hold what one owner holds: a hash from the owner's text to the hold count, gone at the deadline, as
--- Redisson keeps its lock.
+-- The keys that hold what one owner holds: a hash from the owner's text to the hold count, gone at
+-- the deadline, as Redisson keeps its lock.
 use Rattle.std.specs.Prelude.{◌≡◌, ◌≤◌, ◌==◌, ℕ, pos, List, [], ◌∷◌, Option, Some, None, option_map, if◌then◌else◌}
 use Rattle.lr_limits.specs.Limits.{hold_limit, never}
 use Rattle.lr_names.specs.Key.{key_text}
@@ -16,10 +16,13 @@ expiry_of deadline = if deadline == never then None else Some deadline
 
 -- the entry of what is held so
 abbrev pub hold_entry : Hold → KeyEntry
-hold_entry hold =
-    record { value = Fields ((owner_text hold.owner, pos hold.count) ∷ []); expiry = expiry_of hold.deadline }
+hold_entry hold = record {
+  value = Fields ((owner_text hold.owner, pos hold.count) ∷ []);
+  expiry = expiry_of hold.deadline;
+}
 
--- a hold as a key can have it: of a thread of a client, 1 to a million times, with a deadline of at most 63 bits
+-- a hold as a key can have it: of a thread of a client, 1 to a million times, with a deadline of at
+-- most 63 bits
 pub record IsHold (hold : Hold) : Type 0 where
   pub owner : IsOwner hold.owner
   pub some : 1 ≤ hold.count

@@ -1,17 +1,25 @@
-ghost use Rattle.std.specs.Prelude.{◌≡◌, ◌≤◌, None};
-ghost use Rattle.lr_keys.specs.KeySpace.{Keys, entry_at, live_entries};
+ghost use Rattle.std.specs.Prelude.{◌≡◌, ◌≤◌, ℕ, List, None};
+ghost use Rattle.lr_names.specs.Key.{key_text};
+ghost use Rattle.lr_names.specs.Name.{IsName};
+ghost use Rattle.lr_keys.specs.KeySpace.{Keys, entry_at, live_entry};
+ghost use Rattle.lr_limits.specs.Limits.{last_moment};
 ghost use Rattle.lr_model.specs.Answer.{Objects, no_objects};
-ghost use Rattle.lr_mutex.specs.Stands.{StandsFor};
+ghost use Rattle.lr_mutex.specs.Stands.{MutexesStand};
+ghost use Rattle.lr_names.specs.declared.part.Part.TheVariants.{Lock};
 
-/// A key space without keys, as a new one, stands for no objects.
-#[tactic(auto, using(crate::proofs::StandsLemmas::no_keys_stand))]
-pub fn no_keys_stand_for_no_objects()
-    ensures { (keys : Keys) → entry_at keys ≡ (λ _. None) → StandsFor keys no_objects }
+/// A key space without keys, as a new one, stands for no locks.
+
+pub fn no_keys_stand_for_no_mutexes()
+    ensures { (keys : Keys) → entry_at keys ≡ (λ _. None) → MutexesStand keys no_objects }
 {}
 
-/// What is left of the keys at a later moment stands for the same objects.
-#[tactic(auto, using(crate::proofs::StandsLemmas::stands_later))]
-pub fn keys_stand_later()
-    ensures { (old new : Keys) (objects : Objects) → StandsFor old objects → old.moment ≤ new.moment
-        → entry_at new ≡ live_entries new.moment (entry_at old) → StandsFor new objects }
+/// Where the key of each lock goes on to hold what is live of it, as in a call of another kind, the
+/// keys stand for the same locks.
+
+pub fn mutexes_stand_later()
+    ensures { (old new : Keys) (objects : Objects) → MutexesStand old objects
+        → old.moment ≤ new.moment → new.moment ≤ last_moment
+        → ((name : List ℕ) → IsName name
+            → entry_at new (key_text Lock name) ≡ live_entry new.moment (entry_at old (key_text Lock name)))
+        → MutexesStand new objects }
 {}

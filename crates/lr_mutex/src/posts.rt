@@ -1,7 +1,8 @@
 //! The message that a function sends.
-ghost use Rattle.std.specs.Prelude.{◌≡◌, Option, if◌then◌else◌};
-ghost use Rattle.lr_model.specs.Answer.{name_of, lock_post};
-ghost use Rattle.lr_mutex.specs.Step.{is_freed};
+ghost use Rattle.std.specs.Prelude.{◌≡◌, None, Some, if◌then◌else◌};
+ghost use Rattle.lr_model.specs.Mutex.{lock_post};
+ghost use Rattle.lr_objects.specs.Op.{name_of};
+ghost use Rattle.lr_hold.specs.Step.{is_freed};
 
 use lr_names::{Channel, Kind, Name, Post};
 use lr_objects::{Op, Reply};
@@ -27,7 +28,7 @@ fn lock_post(name: &Name) -> Post
     Post { channel, wakes }
 }
 
-// The message that a call sends which was answered so.
+/// The message that a call sends which was answered so.
 pub(crate) fn post_after(op: &Op, reply: &Reply) -> Option<Post>
     ensures { result ≡ (if is_freed reply.now then Some (lock_post (name_of op.now)) else None) }
 {

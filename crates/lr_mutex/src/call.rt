@@ -1,0 +1,108 @@
+//! The call of a function of a lock.
+ghost use Rattle.std.specs.Prelude.{◌≡◌, ◌≤◌, None, max, false, IsOk, IfOk, OnOk, OnErr};
+ghost use Rattle.lr_names.specs.Key.{key_text, keys_of};
+ghost use Rattle.lr_keys.specs.KeySpace.{OthersAreLive, entry_at, live_entry, plan_at};
+ghost use Rattle.lr_limits.specs.Limits.{last_moment};
+ghost use Rattle.lr_model.specs.Answer.{Objects, answer, reply_of, objects_after, post_of};
+ghost use Rattle.lr_names.specs.Name.{IsName};
+ghost use Rattle.lr_names.specs.Owner.{IsOwner};
+ghost use Rattle.lr_objects.specs.Op.{IsCall, kind_of, name_of};
+ghost use Rattle.lr_mutex.specs.Run.{IsRun, makes_key};
+ghost use Rattle.lr_mutex.specs.Stands.{MutexesStand};
+
+use crate::functions::{lock_force, lock_renew, lock_try, lock_unlock};
+use crate::posts::post_after;
+use lr_keys::KeySpace;
+use lr_names::{Kind, Name, Owner, Part, Post};
+use lr_objects::{Op, Reply};
+use std::alloc::{AllocError, Global};
+
+// The reply of a function, with its change of the keys.
+fn answer(alloc: Global, keys: &mut KeySpace, moment: u64, op: &Op) -> Result<Reply, AllocError>
+    requires call { IsCall op.now }
+    requires early { moment ≤ last_moment }
+    ensures run { let m = max keys.old.moment moment in IfOk result (λ reply.
+        IsRun keys.old keys.new m (name_of op.now) reply (λ objects. answer objects m op.now)) }
+    ensures succeeds { let m = max keys.old.moment moment in
+        makes_key op.now (live_entry m (entry_at keys.old (key_text Part.Lock (name_of op.now)))) ≡ false
+        → IsOk result }
+    ensures err { OnErr result (keys.new ≡ keys.old) }
+{
+    match op {
+        Op::LockTry { name, owner, lease } => { lock_try(alloc, keys, moment, name, owner, *lease) }
+        Op::LockUnlock { name, owner, rest } => {
+            Ok(lock_unlock(alloc, keys, moment, name, owner, *rest))
+        }
+        Op::LockRenew { name, owner, lease } => Ok(lock_renew(keys, moment, name, owner, *lease)),
+        Op::LockForce { name } => Ok(lock_force(keys, moment, name)),
+    }
+}
+
+// What the type of a name says of it.
+fn named(name: &Name)
+    ensures { IsName name.now }
+{
+    let _text = name.as_slice();
+}
+
+// What the types of a name and an owner say of them.
+fn owned(name: &Name, owner: &Owner)
+    ensures name { IsName name.now }
+    ensures owner { IsOwner owner.now }
+{
+    named(name);
+    let _client = owner.client();
+    let _thread = owner.thread();
+}
+
+// What the types of a call's parts say of them.
+fn known(op: &Op)
+    ensures { IsCall op.now }
+{
+    match op {
+        Op::LockTry { name, owner, .. }
+        | Op::LockUnlock { name, owner, .. }
+        | Op::LockRenew { name, owner, .. } => owned(name, owner),
+        Op::LockForce { name } => named(name),
+    }
+}
+
+/// Runs a function of a reentrant lock, as one step at a moment in milliseconds, or at that of the
+/// keys where that is later.
+///
+/// Where the keys stand for the locks of some objects, the reply and the message are what the function
+/// gives for these, and afterwards the keys stand for what it makes of them. All keys of other objects
+/// hold what is live of them. Memory that was prepared is given up.
+///
+/// Only a try that makes the lock's key takes memory. After an error nothing has changed: the moment
+/// and the keys are as before.
+pub fn run(
+    alloc: Global,
+    keys: &mut KeySpace,
+    moment: u64,
+    op: &Op,
+) -> Result<(Reply, Option<Post>), AllocError>
+    requires kind { kind_of op.now ≡ Kind.Mutex }
+    requires early { moment ≤ last_moment }
+    ensures reply { let m = max keys.old.moment moment in IfOk result (λ r.
+        (objects : Objects) → MutexesStand keys.old objects → r.0 ≡ reply_of objects m op.now) }
+    ensures post { let m = max keys.old.moment moment in IfOk result (λ r.
+        (objects : Objects) → MutexesStand keys.old objects → r.1 ≡ post_of objects m op.now) }
+    ensures stands { let m = max keys.old.moment moment in
+        OnOk result ((objects : Objects) → MutexesStand keys.old objects
+        → MutexesStand keys.new (objects_after objects m op.now)) }
+    ensures frame { OnOk result
+        (OthersAreLive (keys_of Kind.Mutex (name_of op.now)) keys.old keys.new) }
+    ensures moment { OnOk result (keys.new.moment ≡ max keys.old.moment moment) }
+    ensures settled { OnOk result (plan_at keys.new ≡ (λ _. None)) }
+    ensures succeeds { let m = max keys.old.moment moment in
+        makes_key op.now (live_entry m (entry_at keys.old (key_text Part.Lock (name_of op.now)))) ≡ false
+        → IsOk result }
+    ensures err { OnErr result (keys.new ≡ keys.old) }
+{
+    known(op);
+    let reply = answer(alloc, keys, moment, op)?;
+    keys.settle();
+    let post = post_after(op, &reply);
+    Ok((reply, post))
+}
