@@ -1,61 +1,16 @@
 -- Texts of channels are one to one: a name has no colon, so each part is found again.
-use Rattle.std.proofs.Common.{◌≡◌, ◌≢◌, ℕ, List, [], ◌∷◌, ◌++◌, drop, Option, None, Some, is_some, true, true≢false, IsTrue, if◌then◌else◌, codes, refl, sym, ap, ◌∙◌, append_assoc, append-nil}
-use Rattle.std.proofs.lemmas.Bool.{and_parts}
-use Rattle.std.specs.List.{list_all}
+use Rattle.std.proofs.Common.{◌≡◌, ℕ, List, ◌∷◌, ◌++◌, drop, Option, None, Some, is_some, true, true≢false, IsTrue, codes, refl, sym, ap, ◌∙◌, append_assoc, append-nil}
 use Rattle.std.specs.Option.{ForSome}
-use Rattle.std.specs.Str.{bytes_eq}
 use Rattle.lr_text.specs.Words.{lacks}
-use Rattle.lr_text.proofs.WordLaws.{lacks-cons, cut-injective}
-use Rattle.lr_names.specs.Name.{is_name_byte, IsName}
+use Rattle.lr_text.proofs.WordLaws.{cut-injective}
+use Rattle.lr_names.specs.Name.{IsName}
 use Rattle.lr_names.specs.Owner.{ThreadOfClient, IsOwner, owner_text}
 use Rattle.lr_names.specs.Channel.{ChannelOf, IsChannel, is_fair, kind_word, owner_part, channel_text}
 use Rattle.lr_names.specs.declared.kind.Kind.{Kind}
-use Rattle.lr_names.specs.declared.kind.Kind.TheVariants.{Mutex, Fair, Rw, Fenced, Semaphore, Permits, Countdown}
+use Rattle.lr_names.specs.declared.kind.Kind.TheVariants.{Fair}
+use Rattle.lr_names.proofs.NameLaws.{name-lacks}
+use Rattle.lr_names.proofs.KindLaws.{kind_word-lacks, kind_word-injective}
 use Rattle.lr_names.proofs.OwnerLaws.{owner_text-injective}
-
-name_bytes-lack : (text : List ℕ) → IsTrue (list_all is_name_byte text) → IsTrue (lacks 58 text)
-name_bytes-lack [] h = refl
-name_bytes-lack (b ∷ bs) h =
-    let parts = and_parts (is_name_byte b) (list_all is_name_byte bs) h in
-    let other : b ≢ 58 = λ e. true≢false (sym parts.0 ∙ ap is_name_byte e) in
-    lacks-cons 58 b bs other (name_bytes-lack bs parts.1)
-
--- a name has no colon
-pub name-lacks : (name : List ℕ) → IsName name → IsTrue (lacks 58 name)
-name-lacks name h = name_bytes-lack name h.bytes
-
--- the kind of a word
-kind_of : List ℕ → Kind
-kind_of word =
-    if bytes_eq word (kind_word Mutex) then Mutex
-    else if bytes_eq word (kind_word Fair) then Fair
-    else if bytes_eq word (kind_word Rw) then Rw
-    else if bytes_eq word (kind_word Fenced) then Fenced
-    else if bytes_eq word (kind_word Semaphore) then Semaphore
-    else if bytes_eq word (kind_word Permits) then Permits
-    else Countdown
-
-kind_of-kind_word : (kind : Kind) → kind_of (kind_word kind) ≡ kind
-unfolding kind_of
-kind_of-kind_word Mutex = refl
-kind_of-kind_word Fair = refl
-kind_of-kind_word Rw = refl
-kind_of-kind_word Fenced = refl
-kind_of-kind_word Semaphore = refl
-kind_of-kind_word Permits = refl
-kind_of-kind_word Countdown = refl
-
-kind_word-lacks : (kind : Kind) → IsTrue (lacks 58 (kind_word kind))
-kind_word-lacks Mutex = refl
-kind_word-lacks Fair = refl
-kind_word-lacks Rw = refl
-kind_word-lacks Fenced = refl
-kind_word-lacks Semaphore = refl
-kind_word-lacks Permits = refl
-kind_word-lacks Countdown = refl
-
-pub kind_word-injective : (a b : Kind) → kind_word a ≡ kind_word b → a ≡ b
-kind_word-injective a b same = sym (kind_of-kind_word a) ∙ ap kind_of same ∙ kind_of-kind_word b
 
 -- behind the tag of a channel stand the word of its kind, a colon and the rest
 pub channel_text-cut : (channel : ChannelOf) (word object : List ℕ) → IsTrue (lacks 58 word)
@@ -76,7 +31,7 @@ pub fair-cut : (channel : ChannelOf) (name owner : List ℕ) → IsChannel chann
     → (name ≡ channel.name) × ((o : ThreadOfClient) × IsOwner o × (owner ≡ owner_text o))
 fair-cut channel name owner h fair in_name same =
     let found = some_of channel.owner (h.fair ∙ ap is_fair fair) in
-    let parts = cut-injective 58 name channel.name owner (owner_text found.0) in_name (name-lacks channel.name h.name) (same ∙ ap (λ o. channel.name ++ owner_part o) found.1) in
+    let parts = cut-injective 58 name channel.name owner (owner_text found.0) in_name (name-lacks 58 channel.name refl h.name) (same ∙ ap (λ o. channel.name ++ owner_part o) found.1) in
     (parts.0, (found.0, h.owner found.0 found.1, parts.1))
 
 objects : (m n : List ℕ) (o p : Option ThreadOfClient) → IsName m → IsName n → ForSome o IsOwner → ForSome p IsOwner → is_some o ≡ is_some p
@@ -85,7 +40,7 @@ objects m n None None in_m in_n known_o known_p alike same = (sym (append-nil m)
 objects m n None (Some y) in_m in_n known_o known_p alike same = absurd (true≢false (sym alike))
 objects m n (Some x) None in_m in_n known_o known_p alike same = absurd (true≢false alike)
 objects m n (Some x) (Some y) in_m in_n known_o known_p alike same =
-    let parts = cut-injective 58 m n (owner_text x) (owner_text y) (name-lacks m in_m) (name-lacks n in_n) same in
+    let parts = cut-injective 58 m n (owner_text x) (owner_text y) (name-lacks 58 m refl in_m) (name-lacks 58 n refl in_n) same in
     (parts.0, ap Some (owner_text-injective x y (known_o x refl) (known_p y refl) parts.1))
 
 -- two channels with one text are one

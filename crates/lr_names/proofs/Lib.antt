@@ -1,3 +1,5 @@
+pub mod NameLaws
 pub mod OwnerLaws
+pub mod KindLaws
 pub mod KeyLaws
 pub mod ChannelLaws

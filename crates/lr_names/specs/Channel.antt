@@ -51,7 +51,8 @@ owner_part (Some owner) = 58 ∷ owner_text owner
 
 -- the text of a channel: ch:KIND:NAME, and behind that :OWNER for a fair lock
 abbrev pub channel_text : ChannelOf → List ℕ
-channel_text channel = codes "ch:" ++ kind_word channel.kind ++ 58 ∷ channel.name ++ owner_part channel.owner
+channel_text channel =
+    codes "ch:" ++ kind_word channel.kind ++ 58 ∷ channel.name ++ owner_part channel.owner
 
 -- a channel that the program can have
 pub record IsChannel (channel : ChannelOf) : Type 0 where

@@ -1,6 +1,7 @@
 -- Who holds a lock: a thread of a client, after Redisson's "UUID:threadId".
 use Rattle.std.specs.Prelude.{◌≡◌, ℕ, ◌<◌, ◌≤◌, List, ◌∷◌, ◌++◌, length, Bool, ◌&&◌, ◌==◌, All, decimal}
 use Rattle.std.specs.Str.{bytes_eq}
+use Rattle.lr_limits.specs.Limits.{thread_limit}
 use Rattle.uuid.specs.Text.{hyphenated_text, lower}
 
 -- a client by the sixteen bytes of its id, and one of its threads
@@ -10,7 +11,7 @@ pub record ThreadOfClient : Type 0 where
 
 -- threads are numbered from 1 to 256
 abbrev pub IsThread : ℕ → Type 0
-IsThread thread = (1 ≤ thread) × (thread ≤ 256)
+IsThread thread = (1 ≤ thread) × (thread ≤ thread_limit)
 
 -- an id is sixteen bytes
 pub record IsId (id : List ℕ) : Type 0 where

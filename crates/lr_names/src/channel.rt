@@ -1,6 +1,7 @@
 ghost use Rattle.std.specs.Prelude.{◌≡◌, ◌≢◌, ◌+◌, ◌≤◌, ℕ, List, ◌∷◌, ◌++◌, length, codes, Option, None, Some, false, IsErr, IsNone, IfOk, IfSome, OnOk, OnErr};
 ghost use Rattle.std.specs.Option.{ForSome};
 ghost use Rattle.lr_names.specs.Channel.{ChannelOf, IsChannel, is_fair, channel_text, owner_part, channel_wakes};
+ghost use Rattle.lr_names.specs.Name.{IsName};
 ghost use Rattle.lr_names.specs.Owner.{IsOwner};
 
 use crate::kind::{Kind, Wakes};
@@ -68,7 +69,8 @@ impl Channel {
     pub fn parse(text: &[u8]) -> Result<Channel, ChannelFault>
         ensures text { IfOk result (λ channel. text.now ≡ channel_text channel) }
         ensures channel { IfOk result IsChannel }
-        ensures bad { IsErr result → (channel : ChannelOf) → IsChannel channel → text.now ≢ channel_text channel }
+        ensures bad { IsErr result → (channel : ChannelOf) → IsChannel channel
+            → text.now ≢ channel_text channel }
     {
         read_channel(text).ok_or(ChannelFault::BadChannel)
     }
@@ -82,8 +84,10 @@ impl Channel {
 
     /// The name of the object.
     pub fn name(&self) -> &Name
-        ensures { result.now ≡ self.now.name }
+        ensures value { result.now ≡ self.now.name }
+        ensures name { IsName result.now }
     {
+        let _text = self.name.as_slice();
         &self.name
     }
 
@@ -105,29 +109,23 @@ impl Channel {
     pub fn brief(&self) -> Brief
         ensures text { result ≡ channel_text self.now }
         ensures channel { IsChannel self.now }
-        ensures alone { (other : ChannelOf) → IsChannel other → result ≡ channel_text other → self.now ≡ other }
+        ensures alone { (other : ChannelOf) → IsChannel other → result ≡ channel_text other
+            → self.now ≡ other }
     {
-        self.known();
         self.written()
     }
 
     /// The text of the channel.
     pub fn text(&self, alloc: Global) -> Result<Text, AllocError>
-        ensures { IfOk result (λ text. text ≡ channel_text self.now) }
+        ensures text { IfOk result (λ text. text ≡ channel_text self.now) }
+        ensures channel { IsChannel self.now }
     {
         Text::of(alloc, self.written().as_slice())
     }
 
-    /// What is true of every channel: its name is one, and it has an owner exactly for a fair lock.
-    pub fn known(&self)
-        ensures { IsChannel self.now }
-    {
-        let _name = self.name.as_slice();
-        owner_known(&self.owner);
-    }
-
     fn written(&self) -> Brief
-        ensures { result ≡ channel_text self.now }
+        ensures text { result ≡ channel_text self.now }
+        ensures channel { IsChannel self.now }
     {
         let mut text = Brief::new();
         text.push_bytes(b"ch:");
@@ -139,25 +137,10 @@ impl Channel {
     }
 }
 
-/// Appends the text of a channel. An error leaves the text as it was.
-pub fn write_channel(out: &mut Text, channel: &Channel) -> Result<(), AllocError>
-    ensures ok { OnOk result (out.new ≡ out.old ++ channel_text channel.now) }
-    ensures err { OnErr result (out.new ≡ out.old) }
-{
-    out.push_bytes(channel.written().as_slice())
-}
-
-fn owner_known(owner: &Option<Owner>)
-    ensures { ForSome owner.now IsOwner }
-{
-    if let Some(owner) = owner {
-        owner.known();
-    }
-}
-
 fn push_owner(text: &mut Brief, owner: &Option<Owner>)
     requires { length text.old ≤ 80 }
-    ensures { text.new ≡ text.old ++ owner_part owner.now }
+    ensures text { text.new ≡ text.old ++ owner_part owner.now }
+    ensures owner { ForSome owner.now IsOwner }
 {
     if let Some(owner) = owner {
         text.push_bytes(b":");
@@ -168,7 +151,8 @@ fn push_owner(text: &mut Brief, owner: &Option<Owner>)
 fn read_channel(text: &[u8]) -> Option<Channel>
     ensures text { IfSome result (λ channel. text.now ≡ channel_text channel) }
     ensures channel { IfSome result IsChannel }
-    ensures bad { IsNone result → (channel : ChannelOf) → IsChannel channel → text.now ≢ channel_text channel }
+    ensures bad { IsNone result → (channel : ChannelOf) → IsChannel channel
+        → text.now ≢ channel_text channel }
 {
     let (word, object) = split_once(after_tag(text)?, b':')?;
     read_object(Kind::of_word(word)?, object)
@@ -188,8 +172,8 @@ fn read_object(kind: Kind, text: &[u8]) -> Option<Channel>
     ensures text { IfSome result (λ channel. text.now ≡ channel.name ++ owner_part channel.owner) }
     ensures kind { IfSome result (λ channel. channel.kind ≡ kind) }
     ensures channel { IfSome result IsChannel }
-    ensures bad { IsNone result → (channel : ChannelOf) → IsChannel channel → channel.kind ≡ kind
-        → text.now ≢ channel.name ++ owner_part channel.owner }
+    ensures bad { IsNone result → (channel : ChannelOf) → IsChannel channel
+        → channel.kind ≡ kind → text.now ≢ channel.name ++ owner_part channel.owner }
 {
     match kind {
         Kind::Fair => read_fair(text),
@@ -204,8 +188,8 @@ fn read_fair(text: &[u8]) -> Option<Channel>
     ensures text { IfSome result (λ channel. text.now ≡ channel.name ++ owner_part channel.owner) }
     ensures kind { IfSome result (λ channel. channel.kind ≡ Kind.Fair) }
     ensures channel { IfSome result IsChannel }
-    ensures bad { IsNone result → (channel : ChannelOf) → IsChannel channel → channel.kind ≡ Kind.Fair
-        → text.now ≢ channel.name ++ owner_part channel.owner }
+    ensures bad { IsNone result → (channel : ChannelOf) → IsChannel channel
+        → channel.kind ≡ Kind.Fair → text.now ≢ channel.name ++ owner_part channel.owner }
 {
     let (name, owner) = split_once(text, b':')?;
     let name = read_name(name)?;

@@ -1,6 +1,10 @@
 ghost use Rattle.std.specs.Prelude.{◌≡◌, ◌≢◌, ◌≤◌, length, IsNone, IfSome};
+ghost use Rattle.lr_text.specs.Table.{with_word};
 ghost use Rattle.lr_names.specs.declared.kind.Kind.{Kind};
 ghost use Rattle.lr_names.specs.Channel.{kind_word, channel_wakes};
+ghost use Rattle.lr_names.specs.Key.{parts_of};
+
+use crate::part::Part;
 
 /// The kinds of object.
 #[derive(Clone, Copy, Debug, PartialEq, Eq, Hash)]
@@ -31,6 +35,17 @@ pub enum Wakes {
 }
 
 impl Kind {
+    /// All kinds.
+    pub const ALL: [Kind; 7] = [
+        Kind::Mutex,
+        Kind::Fair,
+        Kind::Rw,
+        Kind::Fenced,
+        Kind::Semaphore,
+        Kind::Permits,
+        Kind::Countdown,
+    ];
+
     /// The word of the kind.
     pub fn word(self) -> &'static [u8]
         ensures word { result.now ≡ kind_word self }
@@ -52,15 +67,27 @@ impl Kind {
         ensures some { IfSome result (λ kind. word.now ≡ kind_word kind) }
         ensures none { IsNone result → (kind : Kind) → word.now ≢ kind_word kind }
     {
-        match word {
-            b"lock" => Some(Kind::Mutex),
-            b"fair" => Some(Kind::Fair),
-            b"rw" => Some(Kind::Rw),
-            b"fenced" => Some(Kind::Fenced),
-            b"sem" => Some(Kind::Semaphore),
-            b"permits" => Some(Kind::Permits),
-            b"latch" => Some(Kind::Countdown),
-            _ => None,
+        Kind::search(word)
+    }
+
+    fn search(word: &[u8]) -> Option<Kind>
+        ensures { result ≡ with_word kind_word Self.ALL word.now }
+    {
+        Kind::ALL.iter().copied().find(|kind| kind.word() == word)
+    }
+
+    /// The parts that a server keeps of an object of this kind, each under a key of its own.
+    pub fn parts(self) -> &'static [Part]
+        ensures { result.now ≡ parts_of self }
+    {
+        match self {
+            Kind::Mutex => &[Part::Lock],
+            Kind::Fair => &[Part::Fair, Part::FairQueue, Part::FairStale],
+            Kind::Rw => &[Part::Rw, Part::RwDeadlines],
+            Kind::Fenced => &[Part::Fenced, Part::Token],
+            Kind::Semaphore => &[Part::Semaphore],
+            Kind::Permits => &[Part::Permits, Part::PermitLeases],
+            Kind::Countdown => &[Part::Countdown],
         }
     }
 

@@ -10,9 +10,9 @@ mod post;
 #[cfg(test)]
 mod tests;
 
-pub use channel::{Channel, ChannelFault, write_channel};
+pub use channel::{Channel, ChannelFault};
 pub use kind::{Kind, Wakes};
-pub use name::{NAME_BYTES, Name, NameFault};
-pub use owner::{MOST_THREADS, OWNER_BYTES, Owner, OwnerFault};
+pub use name::{Name, NameFault};
+pub use owner::{Owner, OwnerFault};
 pub use part::{Part, key};
 pub use post::{Due, Post, Push};

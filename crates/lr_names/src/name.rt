@@ -2,12 +2,10 @@ ghost use Rattle.std.specs.Prelude.{◌≡◌, ◌↔◌, Some, IsTrue, IsNone, 
 ghost use Rattle.std.specs.List.{list_all};
 ghost use Rattle.lr_names.specs.Name.{is_name_byte, IsName};
 
+use lr_limits::NAME_BYTES;
 use lr_text::ShortText;
 use std::marker::Model;
 use std::{fmt, str};
-
-/// The greatest length of a [`Name`], in bytes.
-pub const NAME_BYTES: usize = 64;
 
 /// The name of an object: 1 to 64 letters, digits, `_`, `.` or `-`.
 #[derive(Clone, Copy, PartialEq, Eq, Hash)]

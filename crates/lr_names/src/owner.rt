@@ -2,19 +2,14 @@ ghost use Rattle.std.specs.Prelude.{◌≡◌, ◌≢◌, ◌↔◌, ◌<◌, �
 ghost use Rattle.lr_names.specs.Owner.{ThreadOfClient, IsThread, IsId, IsOwner, id_text, owner_text};
 
 use itoa::Buffer;
+use lr_limits::MOST_THREADS;
 use lr_text::{Brief, read_number, split_once};
 use std::marker::Model;
 use std::{fmt, str};
 use uuid::Uuid;
 
-/// The greatest number of a thread.
-pub const MOST_THREADS: u32 = 256;
-
 /// The length of an id's text, in bytes.
 const ID_BYTES: usize = 36;
-
-/// The greatest length of an owner's text, in bytes.
-pub const OWNER_BYTES: usize = 40;
 
 /// A thread of a client. Threads are numbered from 1 to 256.
 #[derive(Clone, Copy, PartialEq, Eq, Hash)]
@@ -55,7 +50,8 @@ impl Owner {
     pub fn parse(text: &[u8]) -> Result<Owner, OwnerFault>
         ensures text { IfOk result (λ owner. text.now ≡ owner_text owner) }
         ensures owner { IfOk result IsOwner }
-        ensures bad { IsErr result → (owner : ThreadOfClient) → IsOwner owner → text.now ≢ owner_text owner }
+        ensures bad { IsErr result → (owner : ThreadOfClient) → IsOwner owner
+            → text.now ≢ owner_text owner }
     {
         read_owner(text).ok_or(OwnerFault::BadOwner)
     }
@@ -63,9 +59,9 @@ impl Owner {
     /// The id of the client.
     pub fn client(&self) -> Uuid
         ensures value { result ≡ self.now.client }
-        ensures id { IsId result }
+        ensures owner { IsOwner self.now }
     {
-        self.known();
+        id_fits(self.client.as_bytes());
         self.client
     }
 
@@ -77,33 +73,28 @@ impl Owner {
         self.thread
     }
 
-    /// The text of the owner: its id, a colon and its thread. No other owner has it.
+    /// The text of the owner: its id, a colon and its thread, at most 40 bytes. No other owner has
+    /// it.
     pub fn brief(&self) -> Brief
         ensures text { result ≡ owner_text self.now }
-        ensures short { length result ≤ OWNER_BYTES }
+        ensures short { length result ≤ 40 }
         ensures owner { IsOwner self.now }
-        ensures alone { (other : ThreadOfClient) → IsOwner other → result ≡ owner_text other → self.now ≡ other }
+        ensures alone { (other : ThreadOfClient) → IsOwner other → result ≡ owner_text other
+            → self.now ≡ other }
     {
-        self.known();
         self.written()
     }
 
-    /// What is true of every owner: its id has sixteen bytes, and its thread is in range.
-    pub fn known(&self)
-        ensures { IsOwner self.now }
-    {
-        id_fits(self.client.as_bytes());
-    }
-
     fn written(&self) -> Brief
-        ensures { result ≡ owner_text self.now }
+        ensures text { result ≡ owner_text self.now }
+        ensures owner { IsOwner self.now }
     {
         let mut id = [0; ID_BYTES];
         let mut digits = Buffer::new();
         let mut text = Brief::new();
-        text.push_bytes(self.client.hyphenated().encode_lower(&mut id).as_bytes());
+        text.push_bytes(self.client().hyphenated().encode_lower(&mut id).as_bytes());
         text.push_bytes(b":");
-        text.push_bytes(digits.format(self.thread).as_bytes());
+        text.push_bytes(digits.format(self.thread()).as_bytes());
         text
     }
 }
@@ -122,7 +113,8 @@ fn bytes_fit(bytes: &[u8])
 pub(crate) fn read_owner(text: &[u8]) -> Option<Owner>
     ensures text { IfSome result (λ owner. text.now ≡ owner_text owner) }
     ensures owner { IfSome result IsOwner }
-    ensures bad { IsNone result → (owner : ThreadOfClient) → IsOwner owner → text.now ≢ owner_text owner }
+    ensures bad { IsNone result → (owner : ThreadOfClient) → IsOwner owner
+        → text.now ≢ owner_text owner }
 {
     let (id, thread) = split_once(text, b':')?;
     Some(Owner {

@@ -1,3 +1,6 @@
+ghost use Rattle.std.specs.Prelude.{◌≡◌};
+ghost use Rattle.lr_names.specs.Post.{post_to};
+
 use crate::channel::Channel;
 use crate::kind::Wakes;
 
@@ -8,6 +11,18 @@ pub struct Post {
     pub channel: Channel,
     /// How many of a client's waiting threads it wakes.
     pub wakes: Wakes,
+}
+
+impl Post {
+    /// The message that tells those who wait on this channel.
+    pub fn to(channel: Channel) -> Post
+        ensures { result ≡ post_to channel }
+    {
+        Post {
+            channel,
+            wakes: channel.wakes(),
+        }
+    }
 }
 
 /// What a subscribed connection is sent.

@@ -3,8 +3,9 @@ ghost use Rattle.lr_names.specs.Owner.{IsThread};
 ghost use Rattle.lr_model.specs.Within.{IsClient, IsWithin};
 ghost use Rattle.lr_schedule.specs.Spelled.{event_of, AreWithin, IsLimited};
 
+use lr_limits::MOST_THREADS;
 use lr_model::{Event, ScheduleLine, ThreadId};
-use lr_names::{MOST_THREADS, Name};
+use lr_names::Name;
 use lr_objects::{Mode, Want};
 
 /// How many events a schedule has at most.

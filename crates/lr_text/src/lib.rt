@@ -10,12 +10,11 @@ mod text;
 mod words;
 
 pub use items::Items;
+use lr_limits::BRIEF_BYTES;
 pub use number::{read_number, write_number};
 pub use short_text::ShortText;
 pub use text::Text;
 pub use words::{Words, split_once};
-
-use lr_limits::BRIEF_BYTES;
 
 /// A list of at most [`BRIEF_BYTES`] bytes of fixed size, copied without memory: a key, a field, an
 /// owner's text.

@@ -32,7 +32,8 @@ fn read_plain(text: &str) -> Option<u64>
 
 // Neither a sign nor a zero that more bytes follow.
 fn has_plain_start(text: &[u8]) -> bool
-    ensures { IsTrue result ↔ ((slice_index text.now 0 ≢ 43) × (slice_index text.now 0 ≡ 48 → length text.now ≡ 1)) }
+    ensures { IsTrue result ↔
+        ((slice_index text.now 0 ≢ 43) × (slice_index text.now 0 ≡ 48 → length text.now ≡ 1)) }
 {
     match text {
         [b'+', ..] => false,

@@ -24,7 +24,10 @@ impl<const CAP: usize> Model for ShortText<CAP> {
 
     ghost inverse = { λ text. record { bytes = padded CAP text; len = length text } };
 
-    ghost inverse_ok = { λ a h. let e = padded-front CAP a.len a.bytes h in let f = length-front CAP a.len a.bytes h in Prim.rw e (Prim.rw f refl) };
+    ghost inverse_ok = { λ a h.
+        let e = padded-front CAP a.len a.bytes h in
+        let f = length-front CAP a.len a.bytes h in
+        Prim.rw e (Prim.rw f refl) };
 }
 
 impl<const CAP: usize> ShortText<CAP> {

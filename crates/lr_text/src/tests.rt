@@ -1,56 +1,74 @@
 use super::*;
+use lr_limits::BRIEF_BYTES;
+use std::alloc::{AllocError, Global};
 use std::test::Fail;
 
-#[test]
-fn spellings(rt: HostRuntime) -> Result<(), Fail> {
-    let numbers: [(&str, Option<u64>); 9] = [
-        ("0", Some(0)),
-        ("7", Some(7)),
-        ("18446744073709551615", Some(u64::MAX)),
-        ("18446744073709551616", None),
-        ("00", None),
-        ("+1", None),
-        ("-1", None),
-        ("1 ", None),
-        ("", None),
-    ];
-    for (text, number) in numbers {
-        assert_eq!(rt; read_number(text.as_bytes()), number, "{text}");
-    }
+fn numbers() -> bool {
+    read_number(b"0") == Some(0)
+        && read_number(b"7") == Some(7)
+        && read_number(b"18446744073709551615") == Some(u64::MAX)
+}
 
+fn is_no_number(text: &[u8]) -> bool {
+    read_number(text).is_none()
+}
+
+fn no_numbers() -> bool {
+    is_no_number(b"18446744073709551616")
+        && is_no_number(b"00")
+        && is_no_number(b"+1")
+        && is_no_number(b"-1")
+        && is_no_number(b"1 ")
+        && is_no_number(b"")
+}
+
+// Two spaces in a row have an empty word between them, and one stands behind the last space.
+fn words() -> bool {
     let mut words = Words::new(b"fair  lock ");
-    for word in ["fair", "", "lock", ""] {
-        assert_eq!(rt; words.next(), Some(word.as_bytes()));
-    }
-    assert!(rt; words.next().is_none());
-    assert!(rt; split_once(b"a:b:c", b':').is_some());
-    Ok(())
+    let first = words.next() == Some(b"fair".as_slice());
+    let second = words.next() == Some(b"".as_slice());
+    let third = words.next() == Some(b"lock".as_slice());
+    let fourth = words.next() == Some(b"".as_slice());
+    first && second && third && fourth && words.next().is_none()
+}
+
+fn short_texts() -> bool {
+    let mut brief = Brief::new();
+    let empty = brief.is_empty();
+    brief.push_bytes(b"latch");
+    let same = Brief::of(b"latch") == Some(brief) && brief.len() == 5;
+    empty && same && Brief::of(&[0; BRIEF_BYTES + 1]).is_none()
 }
 
 #[test]
-fn lists(rt: HostRuntime) -> Result<(), Fail> {
-    let mut text = Text::new(rt.alloc());
+fn spellings(rt: HostRuntime) -> Result<(), Fail> {
+    let split = split_once(b"a:b:c", b':').is_some();
+    assert!(rt; numbers() && no_numbers() && words() && short_texts() && split);
+    Ok(())
+}
+
+fn texts(alloc: Global) -> Result<bool, AllocError> {
+    let mut text = Text::new(alloc);
+    let empty = text.is_empty();
     text.push(b'a')?;
     text.push_bytes(b"bcd")?;
     text.truncate(2);
     write_number(&mut text, u64::MAX)?;
-    assert_eq!(rt; text.as_slice(), b"ab18446744073709551615".as_slice());
-    assert_eq!(rt; text.len(), 22);
-
-    let mut items = Items::new(rt.alloc());
-    items.push(Text::of(rt.alloc(), b"ab18446744073709551615")?)?;
-    assert!(rt; items.get(0) == Some(&text));
-    assert!(rt; items.get(1).is_none());
-    assert!(rt; !items.is_empty());
-    assert_eq!(rt; items.len(), items.as_slice().len());
+    let whole = text == Text::of(alloc, b"ab18446744073709551615")? && text.len() == 22;
     text.clear();
-    assert!(rt; text.is_empty());
+    Ok(empty && whole && text.is_empty())
+}
 
-    let mut brief = Brief::new();
-    assert!(rt; brief.is_empty());
-    brief.push_bytes(b"latch");
-    assert!(rt; Brief::of(b"latch") == Some(brief));
-    assert_eq!(rt; brief.len(), 5);
-    assert!(rt; Brief::of(&[0; BRIEF_BYTES + 1]).is_none());
+fn items(alloc: Global) -> Result<bool, AllocError> {
+    let text = Text::of(alloc, b"item")?;
+    let mut items = Items::new(alloc);
+    items.push(text.clone()?)?;
+    let one = items.len() == 1 && items.as_slice().len() == 1 && !items.is_empty();
+    Ok(one && items.get(0) == Some(&text) && items.get(1).is_none())
+}
+
+#[test]
+fn lists(rt: HostRuntime) -> Result<(), Fail> {
+    assert!(rt; texts(rt.alloc())? && items(rt.alloc())?);
     Ok(())
 }
