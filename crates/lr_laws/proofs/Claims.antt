@@ -33,8 +33,8 @@ kind_at-number Mutex = refl
 kind_at-number _ = refl
 
 -- kinds that are alike are one
-one_kind : (a b : Kind) → same_kind a b ≡ true → a ≡ b
-one_kind a b e =
+kind_is : (a b : Kind) → same_kind a b ≡ true → a ≡ b
+kind_is a b e =
     sym (kind_at-number a) ∙ ap kind_at ((Decides-eqb (kind_number a) (kind_number b)).0 e)
     ∙ kind_at-number b
 
@@ -48,7 +48,7 @@ module _ (a b : Claim) (conflict : conflicts a b ≡ true) where
   on_one_object =
       let object = and_parts (same_object a b.kind b.name) _ parts.0 in
       let both = and_parts (same_kind a.kind b.kind) (bytes_eq a.name b.name) object.0 in
-      let kind : a.kind ≡ b.kind = one_kind a.kind b.kind both.0 in
+      let kind : a.kind ≡ b.kind = kind_is a.kind b.kind both.0 in
       let name : a.name ≡ b.name = (bytes_eq-Decides a.name b.name).0 both.1 in
       sym (λ i. claim_on (kind i) (name i) b.mode b.owner)
 

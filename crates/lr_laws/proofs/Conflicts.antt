@@ -11,13 +11,14 @@ use Rattle.lr_model.specs.Tenure.{HoldMode, Claim, conflicts, concerns, no_tenur
 use Rattle.lr_laws.proofs.Claims.{claim_on, on_one_object}
 use Rattle.lr_laws.proofs.KindLaws.{KindLaw, by_history}
 use Rattle.lr_laws.proofs.Mutexes.{mutex_law}
-use Rattle.lr_laws.proofs.UncalledKinds.{uncalled_law}
+use Rattle.lr_laws.proofs.UnclaimedKinds.{unclaimed_law}
 
--- The law of each kind. The last line is that of the kinds whose functions no call runs yet.
+-- The law of each kind: a line for each, and the last for those on whose objects no call takes a
+-- claim. A kind whose calls do gets its line above that, and a file of its own.
 law_of : (kind : Kind) → KindLaw kind
 law_of Mutex = mutex_law
 law_of kind =
-    uncalled_law kind
+    unclaimed_law kind
     (λ name mode owner op. elim op as (λ o. concerns o (claim_on kind name mode owner) ≡ false)
     [ LockTry _ _ _ ↦ refl | _ ↦ refl ])
 

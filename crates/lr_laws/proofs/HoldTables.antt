@@ -11,11 +11,11 @@ use Rattle.lr_model.specs.Outcome.{Outcome}
 use Rattle.lr_model.specs.Table.{put}
 use Rattle.lr_model.specs.Tenure.{HoldMode, Exclusive, Shared, Tenure, is_current, no_tenure, same_mode, tenure_by_reply}
 use Rattle.lr_laws.proofs.Owners.{same_owner-Decides}
-use Rattle.lr_laws.proofs.Holds.{IsHeldWhileCurrent, KeepsHolds, EndsHolds, held_later, without_tenure, one_owner}
+use Rattle.lr_laws.proofs.Holds.{HasHoldWhileCurrent, KeepsHolds, EndsHolds, held_later, without_tenure, one_owner}
 
 -- an exclusive claim is held as the hold says, and nobody has a claim in another mode
 abbrev pub BacksAlone : HoldMode → ThreadOfClient → ℕ → Tenure → Option Hold → Type 0
-BacksAlone Exclusive owner moment tenure held = IsHeldWhileCurrent owner moment tenure held
+BacksAlone Exclusive owner moment tenure held = HasHoldWhileCurrent owner moment tenure held
 BacksAlone Shared owner moment tenure held = tenure ≡ no_tenure
 
 -- before the first call
@@ -78,27 +78,27 @@ module _ {X : Type 0} (hold_in : X → Option Hold) (table : List ℕ → X) (na
 
     -- on the claim's object
     here_by_owner : (mine : Bool) → same_owner owner caller ≡ mine
-        → IsHeldWhileCurrent owner moment tenure (hold_in (table key))
-        → IsHeldWhileCurrent owner moment (tenure_after_call mine) (hold_in outcome.object)
+        → HasHoldWhileCurrent owner moment tenure (hold_in (table key))
+        → HasHoldWhileCurrent owner moment (tenure_after_call mine) (hold_in outcome.object)
     here_by_owner true mine backs =
         let same : owner ≡ caller = (same_owner-Decides owner caller).0 mine in
         let own = keeps.own tenure
-        (subst (λ o. IsHeldWhileCurrent o moment tenure (hold_in (table key))) same backs) in
-        subst (λ o. IsHeldWhileCurrent o moment (tenure_after_call true) (hold_in outcome.object))
+        (subst (λ o. HasHoldWhileCurrent o moment tenure (hold_in (table key))) same backs) in
+        subst (λ o. HasHoldWhileCurrent o moment (tenure_after_call true) (hold_in outcome.object))
         (sym same) own
     here_by_owner false other backs = keeps.others owner tenure other backs
 
     -- on it, or on another
     exclusive_by_owner : (here : Bool) → bytes_eq name key ≡ here
-        → IsHeldWhileCurrent owner moment tenure (hold_in (table name))
-        → IsHeldWhileCurrent owner moment
+        → HasHoldWhileCurrent owner moment tenure (hold_in (table name))
+        → HasHoldWhileCurrent owner moment
         (tenure_after_call (((here && true) && same_owner owner caller) || false)) (held_after here)
     exclusive_by_owner false there backs = backs
     exclusive_by_owner true here backs =
-        subst (λ b. IsHeldWhileCurrent owner moment (tenure_after_call b) (held_after true))
+        subst (λ b. HasHoldWhileCurrent owner moment (tenure_after_call b) (held_after true))
         (sym (or_false (same_owner owner caller)))
         (here_by_owner (same_owner owner caller) refl
-        (subst (IsHeldWhileCurrent owner moment tenure) (same_hold here) backs))
+        (subst (HasHoldWhileCurrent owner moment tenure) (same_hold here) backs))
 
     -- a claim that isn't exclusive concerns no call
     shared_by_owner : (here : Bool) → tenure ≡ no_tenure
@@ -115,7 +115,7 @@ module _ {X : Type 0} (hold_in : X → Option Hold) (table : List ℕ → X) (na
         (hold_in (put bytes_eq table key outcome.object name))
     alone_by_owner Exclusive backs =
         by_other_test
-        (IsHeldWhileCurrent owner moment
+        (HasHoldWhileCurrent owner moment
         (tenure_after_call (((bytes_eq name key && true) && same_owner owner caller) || false)))
         (exclusive_by_owner (bytes_eq name key) refl backs)
     alone_by_owner Shared none = shared_by_owner (bytes_eq name key) none
@@ -128,12 +128,12 @@ module _ {X : Type 0} (hold_in : X → Option Hold) (table : List ℕ → X) (na
         if here then tenure_by_reply moment 0 outcome.reply tenure else tenure
 
     exclusive_by_operator : (here : Bool) → bytes_eq name key ≡ here
-        → IsHeldWhileCurrent owner moment tenure (hold_in (table name))
-        → IsHeldWhileCurrent owner moment (tenure_after_end here) (held_after here)
+        → HasHoldWhileCurrent owner moment tenure (hold_in (table name))
+        → HasHoldWhileCurrent owner moment (tenure_after_end here) (held_after here)
     exclusive_by_operator false there backs = backs
     exclusive_by_operator true here backs =
         ends.all owner tenure
-        (subst (IsHeldWhileCurrent owner moment tenure) (same_hold here) backs)
+        (subst (HasHoldWhileCurrent owner moment tenure) (same_hold here) backs)
 
     shared_by_operator : (here : Bool) → tenure ≡ no_tenure → tenure_after_end here ≡ no_tenure
     shared_by_operator true none =
@@ -147,6 +147,6 @@ module _ {X : Type 0} (hold_in : X → Option Hold) (table : List ℕ → X) (na
         (hold_in (put bytes_eq table key outcome.object name))
     alone_by_operator Exclusive backs =
         by_other_test
-        (IsHeldWhileCurrent owner moment (tenure_after_end (bytes_eq name key)))
+        (HasHoldWhileCurrent owner moment (tenure_after_end (bytes_eq name key)))
         (exclusive_by_operator (bytes_eq name key) refl backs)
     alone_by_operator Shared none = shared_by_operator (bytes_eq name key) none

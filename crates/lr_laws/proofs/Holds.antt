@@ -16,33 +16,33 @@ use Rattle.lr_model.specs.Tenure.{Tenure, is_current, no_tenure, tenure_by_reply
 use Rattle.lr_laws.proofs.Owners.{same_owner-Decides}
 
 -- the owner has the hold, until the tenure's deadline
-pub record IsHeld (owner : ThreadOfClient) (tenure : Tenure) (held : Option Hold) : Type 0 where
+pub record HasHold (owner : ThreadOfClient) (tenure : Tenure) (held : Option Hold) : Type 0 where
   pub hold : Hold
   pub is : held ≡ Some hold
   pub mine : hold.owner ≡ owner
   pub until : hold.deadline ≡ tenure.deadline
 
 -- he has it while the tenure is current
-pub record IsHeldWhileCurrent (owner : ThreadOfClient) (moment : ℕ) (tenure : Tenure)
+pub record HasHoldWhileCurrent (owner : ThreadOfClient) (moment : ℕ) (tenure : Tenure)
     (held : Option Hold) : Type 0 where
-  pub held_while : is_current tenure moment ≡ true → IsHeld owner tenure held
+  pub held_while : is_current tenure moment ≡ true → HasHold owner tenure held
 
 one_hold : (a b : Hold) → Some a ≡ Some b → a ≡ b
 one_hold a b e = cc
 
-none_held : (owner : ThreadOfClient) (tenure : Tenure) → IsHeld owner tenure None → ⊥
+none_held : (owner : ThreadOfClient) (tenure : Tenure) → HasHold owner tenure None → ⊥
 none_held owner tenure h = let e = h.is in cc
 
 -- one hold isn't two owners'
 pub one_owner : (a b : ThreadOfClient) (t u : Tenure) (held : Option Hold)
-    → IsHeld a t held → IsHeld b u held → a ≡ b
+    → HasHold a t held → HasHold b u held → a ≡ b
 one_owner a b t u held h k =
     let one : h.hold ≡ k.hold = one_hold h.hold k.hold (sym h.is ∙ k.is) in
     sym h.mine ∙ ap (λ (x : Hold). x.owner) one ∙ k.mine
 
 -- an owner without a tenure
 pub without_tenure : (owner : ThreadOfClient) (moment : ℕ) (held : Option Hold)
-    → IsHeldWhileCurrent owner moment no_tenure held
+    → HasHoldWhileCurrent owner moment no_tenure held
 without_tenure owner moment held =
     record { held_while = λ current. absurd (false≢true current) }
 
@@ -53,7 +53,7 @@ current_before tenure m n le current = grind (arith, nat_tests)
 
 -- time passes
 pub held_later : (owner : ThreadOfClient) (m n : ℕ) (tenure : Tenure) (held : Option Hold)
-    → m ≤ n → IsHeldWhileCurrent owner m tenure held → IsHeldWhileCurrent owner n tenure held
+    → m ≤ n → HasHoldWhileCurrent owner m tenure held → HasHoldWhileCurrent owner n tenure held
 held_later owner m n tenure held le h =
     record { held_while = λ current. h.held_while (current_before tenure m n le current) }
 
@@ -67,8 +67,8 @@ still_live hold moment ahead = grind (arith, nat_tests)
 
 -- a hold whose tenure is current is live
 held_live : (owner : ThreadOfClient) (moment : ℕ) (tenure : Tenure) (held : Option Hold)
-    → IsHeldWhileCurrent owner moment tenure held
-    → IsHeldWhileCurrent owner moment tenure (live_hold moment held)
+    → HasHoldWhileCurrent owner moment tenure held
+    → HasHoldWhileCurrent owner moment tenure (live_hold moment held)
 held_live owner moment tenure held h = record {
   held_while = λ current.
       let now = h.held_while current in
@@ -84,11 +84,11 @@ held_live owner moment tenure held h = record {
 -- What a call of an owner leaves: his own tenure changes by the reply, that of another stays.
 pub record KeepsHolds (moment lease : ℕ) (caller : ThreadOfClient) (before : Option Hold)
     (reply : Reply) (held : Option Hold) : Type 0 where
-  pub own : (tenure : Tenure) → IsHeldWhileCurrent caller moment tenure before
-      → IsHeldWhileCurrent caller moment (tenure_by_reply moment lease reply tenure) held
+  pub own : (tenure : Tenure) → HasHoldWhileCurrent caller moment tenure before
+      → HasHoldWhileCurrent caller moment (tenure_by_reply moment lease reply tenure) held
   pub others : (owner : ThreadOfClient) (tenure : Tenure) → same_owner owner caller ≡ false
-      → IsHeldWhileCurrent owner moment tenure before
-      → IsHeldWhileCurrent owner moment tenure held
+      → HasHoldWhileCurrent owner moment tenure before
+      → HasHoldWhileCurrent owner moment tenure held
 
 -- What a call that takes an object from whoever holds it leaves: every tenure changes by the reply,
 -- and none begins.
@@ -96,8 +96,8 @@ pub record EndsHolds (moment : ℕ) (before : Option Hold) (reply : Reply) (held
     : Type 0 where
   pub none : tenure_by_reply moment 0 reply no_tenure ≡ no_tenure
   pub all : (owner : ThreadOfClient) (tenure : Tenure)
-      → IsHeldWhileCurrent owner moment tenure before
-      → IsHeldWhileCurrent owner moment (tenure_by_reply moment 0 reply tenure) held
+      → HasHoldWhileCurrent owner moment tenure before
+      → HasHoldWhileCurrent owner moment (tenure_by_reply moment 0 reply tenure) held
 
 -- the same of an outcome
 abbrev pub IsKeeping : ℕ → ℕ → ThreadOfClient → Option Hold → Outcome (Option Hold) → Type 0
@@ -111,7 +111,7 @@ module _ (moment lease : ℕ) (caller : ThreadOfClient) where
       → IsKeeping moment lease caller before (silent_outcome reply before)
   silent_keeps reply before stays = record {
     own = λ tenure h.
-        subst (λ t. IsHeldWhileCurrent caller moment t before) (sym (stays tenure)) h;
+        subst (λ t. HasHoldWhileCurrent caller moment t before) (sym (stays tenure)) h;
     others = λ owner tenure other h. h;
   }
 
@@ -121,8 +121,8 @@ module _ (moment lease : ℕ) (caller : ThreadOfClient) where
 
   others_none : (before held : Option Hold) → IsFree before
       → (owner : ThreadOfClient) (tenure : Tenure) → same_owner owner caller ≡ false
-      → IsHeldWhileCurrent owner moment tenure before
-      → IsHeldWhileCurrent owner moment tenure held
+      → HasHoldWhileCurrent owner moment tenure before
+      → HasHoldWhileCurrent owner moment tenure held
   unfolding IsFree
   others_none before held free owner tenure other h = record {
     held_while = λ current.
@@ -232,8 +232,8 @@ end_hold-ends moment post before = record {
     begins_none (Some hold) = refl
 
     ended : (owner : ThreadOfClient) (tenure : Tenure) (live : Option Hold)
-        → IsHeldWhileCurrent owner moment tenure live
-        → IsHeldWhileCurrent owner moment
+        → HasHoldWhileCurrent owner moment tenure live
+        → HasHoldWhileCurrent owner moment
         (tenure_by_reply moment 0 (end_hold post live).reply tenure) (end_hold post live).object
     ended owner tenure None h = h
     ended owner tenure (Some hold) h = without_tenure owner moment None

@@ -4,7 +4,7 @@ pub mod KindLaws
 pub mod Holds
 pub mod HoldTables
 pub mod Mutexes
-pub mod UncalledKinds
+pub mod UnclaimedKinds
 pub mod Conflicts
 pub mod QuietBoards
 pub mod Worlds

@@ -1,5 +1,5 @@
--- The law of a kind whose functions no call runs yet: nobody has a tenure of a claim on its
--- objects.
+-- The law of a kind on whose objects no call takes a claim, as one without functions yet: nobody
+-- has a tenure of such a claim.
 use Rattle.std.proofs.Common.{◌≡◌, List, ℕ, false, sym, ap, ◌∙◌, refl}
 use Rattle.std.proofs.lemmas.Bool.{false≢true, cond-false}
 use Rattle.lr_names.specs.Owner.{ThreadOfClient}
@@ -10,20 +10,20 @@ use Rattle.lr_laws.proofs.Claims.{claim_on}
 use Rattle.lr_laws.proofs.KindLaws.{KindLaw}
 
 -- no call concerns a claim on an object of a kind
-abbrev pub IsUncalled : Kind → Type 0
-IsUncalled kind =
+abbrev pub IsUnclaimed : Kind → Type 0
+IsUnclaimed kind =
     (name : List ℕ) (mode : HoldMode) (owner : ThreadOfClient) (op : Op)
     → concerns op (claim_on kind name mode owner) ≡ false
 
-pub uncalled_law : (kind : Kind) → IsUncalled kind → KindLaw kind
-uncalled_law kind uncalled = record {
+pub unclaimed_law : (kind : Kind) → IsUnclaimed kind → KindLaw kind
+unclaimed_law kind unclaimed = record {
   Backs = λ name mode owner moment tenure objects. tenure ≡ no_tenure;
   kept = λ name mode owner. record {
     at_start = refl;
     by_time = λ m n tenure objects le none. none;
     by_call = λ moment op tenure objects none.
-        cond-false _ _ tenure (uncalled name mode owner op) ∙ none;
+        cond-false _ _ tenure (unclaimed name mode owner op) ∙ none;
   };
-  apart = λ name m n o p conflict moment t u objects none others now then_too.
-      false≢true (sym (ap (λ (x : Tenure). is_current x moment) none) ∙ now);
+  apart = λ name m n o p conflict moment t u objects none others of_first of_second.
+      false≢true (sym (ap (λ (x : Tenure). is_current x moment) none) ∙ of_first);
 }
