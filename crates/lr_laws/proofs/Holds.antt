@@ -22,16 +22,13 @@ pub record HasHold (owner : ThreadOfClient) (tenure : Tenure) (held : Option Hol
   pub mine : hold.owner ≡ owner
   pub until : hold.deadline ≡ tenure.deadline
 
--- he has it while the tenure is current
+-- it has it while the tenure is current
 pub record HasHoldWhileCurrent (owner : ThreadOfClient) (moment : ℕ) (tenure : Tenure)
     (held : Option Hold) : Type 0 where
   pub held_while : is_current tenure moment ≡ true → HasHold owner tenure held
 
 one_hold : (a b : Hold) → Some a ≡ Some b → a ≡ b
 one_hold a b e = cc
-
-none_held : (owner : ThreadOfClient) (tenure : Tenure) → HasHold owner tenure None → ⊥
-none_held owner tenure h = let e = h.is in cc
 
 -- one hold isn't two owners'
 pub one_owner : (a b : ThreadOfClient) (t u : Tenure) (held : Option Hold)
@@ -81,7 +78,7 @@ held_live owner moment tenure held h = record {
       };
 }
 
--- What a call of an owner leaves: his own tenure changes by the reply, that of another stays.
+-- What a call of an owner leaves: its own tenure changes by the reply, that of another stays.
 pub record KeepsHolds (moment lease : ℕ) (caller : ThreadOfClient) (before : Option Hold)
     (reply : Reply) (held : Option Hold) : Type 0 where
   pub own : (tenure : Tenure) → HasHoldWhileCurrent caller moment tenure before
@@ -159,9 +156,9 @@ module _ (moment lease : ℕ) (caller : ThreadOfClient) where
   unfolding IsFree
   nobody hold e = cc
 
-  himself : (hold : Hold) → same_owner hold.owner caller ≡ true → IsFree (Some hold)
+  own_hold : (hold : Hold) → same_owner hold.owner caller ≡ true → IsFree (Some hold)
   unfolding IsFree
-  himself hold same other e =
+  own_hold hold same other e =
       ap (λ (x : Hold). x.owner) (sym (one_hold hold other e))
       ∙ (same_owner-Decides hold.owner caller).0 same
 
@@ -180,7 +177,7 @@ module _ (moment lease : ℕ) (caller : ThreadOfClient) where
       by_test (same_owner hold.owner caller) (Some hold) _ _
       (λ same. by_test (hold.count == hold_limit) (Some hold) _ _
       (λ full. silent_keeps TooDeep (Some hold) (λ tenure. refl))
-      (λ room. holding_keeps Granted (hold.count + 1) (Some hold) (himself hold same)
+      (λ room. holding_keeps Granted (hold.count + 1) (Some hold) (own_hold hold same)
       (λ tenure. refl)))
       (λ other. silent_keeps (Busy (hold.deadline - moment)) (Some hold) (λ tenure. refl))
 
@@ -190,8 +187,8 @@ module _ (moment lease : ℕ) (caller : ThreadOfClient) where
   give_back_hold-keeps post (Some hold) =
       by_test (same_owner hold.owner caller) (Some hold) _ _
       (λ same. by_test (hold.count == 1) (Some hold) _ _
-      (λ last. freeing_keeps post (Some hold) (himself hold same))
-      (λ more. holding_keeps Kept (hold.count - 1) (Some hold) (himself hold same)
+      (λ last. freeing_keeps post (Some hold) (own_hold hold same))
+      (λ more. holding_keeps Kept (hold.count - 1) (Some hold) (own_hold hold same)
       (λ tenure. refl)))
       (λ other. silent_keeps NotHeld (Some hold) (λ tenure. refl))
 
@@ -200,7 +197,7 @@ module _ (moment lease : ℕ) (caller : ThreadOfClient) where
   renew_hold-keeps None = silent_keeps Lost None (λ tenure. refl)
   renew_hold-keeps (Some hold) =
       by_test (same_owner hold.owner caller) (Some hold) _ _
-      (λ same. holding_keeps Renewed hold.count (Some hold) (himself hold same) (λ tenure. refl))
+      (λ same. holding_keeps Renewed hold.count (Some hold) (own_hold hold same) (λ tenure. refl))
       (λ other. silent_keeps Lost (Some hold) (λ tenure. refl))
 
   -- a function that sees the live hold, with a lease that may be refused
