@@ -1,1 +1,3 @@
-pub mod Shown
+pub mod Requests
+pub mod World
+pub mod Reached

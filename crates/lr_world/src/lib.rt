@@ -1,13 +1,11 @@
-//! The world of a schedule, and its run from bytes to bytes.
+//! A server and its clients as one machine that takes one event of a schedule at a time.
 #![tactic(auto)]
 
-mod top;
-mod world;
-mod world_server;
-
-pub use top::play_top;
-pub use world::World;
-pub use world_server::WorldServer;
-
+mod call;
+mod requests;
+mod rows;
 #[cfg(test)]
 mod tests;
+mod world;
+
+pub use world::World;

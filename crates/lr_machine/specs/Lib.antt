@@ -1,4 +1,0 @@
-pub mod Waiters
-pub mod Machine
-pub mod Play
-pub mod Progress

@@ -1,0 +1,56 @@
+-- No event has a text of more than 512 bytes.
+use Rattle.std.proofs.Common.{◌≡◌, ℕ, ◌+◌, ◌<◌, ◌≤◌, ◌^◌, List, [], ◌∷◌, length, decimal, sym, ap, subst, arith}
+use Rattle.std.proofs.lemmas.List.{length-append}
+use Rattle.lr_limits.specs.Limits.{line_limit}
+use Rattle.lr_text.proofs.NumberLaws.{length-decimal}
+use Rattle.lr_text.specs.Words.{joined}
+use Rattle.lr_names.specs.Owner.{id_text}
+use Rattle.lr_names.proofs.OwnerLaws.{length-id_text}
+use Rattle.lr_objects.specs.declared.function.Function.{Function}
+use Rattle.lr_objects.specs.declared.function.Function.TheVariants.{LockTry, LockUnlock, LockRenew, LockForce}
+use Rattle.lr_objects.specs.declared.function.Arguments.{Arguments}
+use Rattle.lr_objects.specs.declared.function.Arguments.TheVariants as arguments
+use Rattle.lr_objects.specs.declared.want.Lease.{Lease}
+use Rattle.lr_objects.specs.declared.want.Want.{Want}
+use Rattle.lr_objects.specs.Function.{function_word, arguments_of}
+use Rattle.lr_objects.specs.Want.{mode_word, lease_word, argument_words, want_words}
+use Rattle.lr_model.specs.declared.event.Event.{Event}
+use Rattle.lr_model.specs.declared.event.Event.TheVariants.{Begin, Ask, Exec, Take, Tick, Force}
+use Rattle.lr_model.specs.declared.schedule_line.ScheduleLine.TheVariants as kinds
+use Rattle.lr_model.specs.EventText.{event_text, IsEvent, IsMillis, IsSpelled, LeaseFits, NumberFits, IdFits}
+use Rattle.lr_model.specs.Transcript.{IsLine}
+
+short_number : (n : ℕ) → n < 2 ^ 64 → length (decimal n) ≤ 20
+short_number n lt = (length-decimal n lt).1
+
+short_function : (f : Function) → length (function_word f) ≤ 20
+short_function LockTry = omega arith
+short_function LockUnlock = omega arith
+short_function LockRenew = omega arith
+short_function LockForce = omega arith
+
+short_lease : (lease : Lease) → IsMillis lease → length (lease_word lease) ≤ 20
+short_lease lease is = subst (λ l. length (lease_word l) ≤ 20) (sym is.1) (short_number is.0 is.2)
+
+-- the name with the words behind it
+short_arguments : (args : Arguments) (want : Want) → LeaseFits args want.lease → NumberFits args want.number → IdFits args want.id → length (joined (want.name ∷ argument_words args want)) ≤ length want.name + 60
+short_arguments arguments.Lease want lease number id = simp length-append (omega (arith, short_lease want.lease lease))
+short_arguments arguments.Number want lease number id = simp length-append (omega (arith, short_number want.number number))
+short_arguments arguments.Nothing want lease number id = omega arith
+short_arguments arguments.Id want lease number id = simp length-append (omega (arith, length-id_text want.id))
+short_arguments arguments.IdAndLease want lease number id = simp length-append (omega (arith, short_lease want.lease lease, length-id_text want.id))
+
+pub short_text : (event : Event) → IsEvent event → length (event_text event) ≤ 512
+short_text (Begin c t mode want) is =
+    let spelled : IsSpelled want = is.2 in
+    let word : length (mode_word mode) ≤ 4 = subst (λ m. length (mode_word m) ≤ 4) (sym is.1.at_once) (omega arith) in
+    let behind = short_arguments (arguments_of want.function) want spelled.lease spelled.number spelled.id in
+    simp length-append (omega (arith, short_number c is.0.0, short_number t is.0.1, word, short_function want.function, behind, spelled.named.short))
+short_text (Ask c t) is = simp length-append (omega (arith, short_number c is.0, short_number t is.1))
+short_text (Exec c t) is = simp length-append (omega (arith, short_number c is.0, short_number t is.1))
+short_text (Take c t) is = simp length-append (omega (arith, short_number c is.0, short_number t is.1))
+short_text (Tick moment) is = simp length-append (omega (arith, short_number moment (omega arith)))
+short_text (Force name) is = simp length-append (omega (arith, is.short))
+
+pub long_is_bad : (number : ℕ) (line : List ℕ) → line_limit < length line → IsLine number line kinds.Bad
+long_is_bad number line long event is same = omega (arith, ap length same, short_text event is)

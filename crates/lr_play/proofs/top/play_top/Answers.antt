@@ -1,0 +1,21 @@
+use Rattle.lr_laws.proofs.Schedules.{goes_well}
+use Rattle.lr_play.proofs.Progress.{nothing_written}
+use Rattle.lr_play.proofs.Ends.{completes}
+use Rattle.lr_play.proofs.top.play_top.Goals as goal
+
+pub returns-then-not-is_play-clause-every_event : goal.returns-then-not-is_play-clause-every_event
+returns-then-not-is_play-clause-every_event g c = goes_well
+
+pub returns-in-Ok-clause-every_event : goal.returns-in-Ok-clause-every_event
+returns-in-Ok-clause-every_event g c = goes_well
+
+pub returns-in-Err-clause-every_event : goal.returns-in-Err-clause-every_event
+returns-in-Err-clause-every_event g c = goes_well
+
+pub returns-in-Ok-clause-complete : goal.returns-in-Ok-clause-complete
+returns-in-Ok-clause-complete g c = λ all before events words left held are no_read no_write.
+    let told = c.run.ensures.ends all before left held in
+    completes c.run.result all told.0 before told.1 events _ _ _ _ told.4 c.run.ensures.read_counts c.run.ensures.write_counts are no_read no_write
+
+pub returns-in-Err-clause-ends : goal.returns-in-Err-clause-ends
+returns-in-Err-clause-ends g c = λ is all before left held. (all, before, left, held, nothing_written all before)

@@ -1,0 +1,9 @@
+//! `lockd play`: a schedule of events from the bytes that are read to the bytes that are written.
+#![tactic(auto)]
+
+mod run;
+#[cfg(test)]
+mod tests;
+mod top;
+
+pub use top::play_top;
