@@ -9,13 +9,13 @@ use Rattle.lr_model.specs.declared.entry.Entry.{Entry}
 use Rattle.lr_model.specs.History.{State, state_at_start, after, IsLegal}
 use Rattle.lr_model.specs.Tenure.{HoldMode, Claim, conflicts, concerns, no_tenure, tenure_after, holds_at, NoConflict}
 use Rattle.lr_laws.proofs.Claims.{claim_on, on_one_object}
-use Rattle.lr_laws.proofs.KindLaws.{KindLaw, by_history}
+use Rattle.lr_laws.proofs.ClaimLaws.{ClaimLaw, by_history}
 use Rattle.lr_laws.proofs.Mutexes.{mutex_law}
 use Rattle.lr_laws.proofs.UnclaimedKinds.{unclaimed_law}
 
 -- The law of each kind: a line for each, and the last for those on whose objects no call takes a
 -- claim. A kind whose calls do gets its line above that, and a file of its own.
-law_of : (kind : Kind) → KindLaw kind
+law_of : (kind : Kind) → ClaimLaw kind
 law_of Mutex = mutex_law
 law_of kind =
     unclaimed_law kind
@@ -33,7 +33,7 @@ module _ (last : ℕ) (entries : List Entry) (legal : IsLegal (state_at_start la
       (tenure_after (claim_on kind name mode owner) first entries no_tenure)
       (after first entries).objects
   backed kind name mode owner moment later =
-      let law : KindLaw kind = law_of kind in
+      let law : ClaimLaw kind = law_of kind in
       let claim : Claim = claim_on kind name mode owner in
       let kept = law.kept name mode owner in
       kept.by_time _ moment _ _ later

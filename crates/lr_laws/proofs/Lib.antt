@@ -1,6 +1,6 @@
 pub mod Owners
 pub mod Claims
-pub mod KindLaws
+pub mod ClaimLaws
 pub mod Holds
 pub mod HoldTables
 pub mod Mutexes

@@ -12,7 +12,7 @@ use Rattle.lr_model.specs.Hold.{live_hold}
 use Rattle.lr_model.specs.Mutex.{lock_post, lock_try, lock_unlock, lock_renew, lock_force}
 use Rattle.lr_model.specs.Tenure.{HoldMode, Tenure, tenure_by_call}
 use Rattle.lr_laws.proofs.Claims.{claim_on, of_two_owners}
-use Rattle.lr_laws.proofs.KindLaws.{KindLaw}
+use Rattle.lr_laws.proofs.ClaimLaws.{ClaimLaw}
 use Rattle.lr_laws.proofs.Holds.{IsKeeping, take_hold-keeps, give_back_hold-keeps, renew_hold-keeps, on_live_hold, end_hold-ends}
 use Rattle.lr_laws.proofs.HoldTables.{BacksAlone, alone_at_start, alone_later, alone_apart, alone_by_owner, alone_by_operator}
 
@@ -64,7 +64,7 @@ module _ (name : List ℕ) (mode : HoldMode) (owner : ThreadOfClient) where
       (end_hold-ends moment (Some (lock_post key)) (objects.mutexes key)) mode backs in
       assumption (forced, backs)
 
-pub mutex_law : KindLaw Mutex
+pub mutex_law : ClaimLaw Mutex
 mutex_law = record {
   Backs = Backs;
   kept = λ name mode owner. record {

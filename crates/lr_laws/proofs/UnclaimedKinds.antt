@@ -7,7 +7,7 @@ use Rattle.lr_names.specs.declared.kind.Kind.{Kind}
 use Rattle.lr_objects.specs.declared.op.Op.{Op}
 use Rattle.lr_model.specs.Tenure.{HoldMode, Tenure, is_current, no_tenure, concerns}
 use Rattle.lr_laws.proofs.Claims.{claim_on}
-use Rattle.lr_laws.proofs.KindLaws.{KindLaw}
+use Rattle.lr_laws.proofs.ClaimLaws.{ClaimLaw}
 
 -- no call concerns a claim on an object of a kind
 abbrev pub IsUnclaimed : Kind → Type 0
@@ -15,7 +15,7 @@ IsUnclaimed kind =
     (name : List ℕ) (mode : HoldMode) (owner : ThreadOfClient) (op : Op)
     → concerns op (claim_on kind name mode owner) ≡ false
 
-pub unclaimed_law : (kind : Kind) → IsUnclaimed kind → KindLaw kind
+pub unclaimed_law : (kind : Kind) → IsUnclaimed kind → ClaimLaw kind
 unclaimed_law kind unclaimed = record {
   Backs = λ name mode owner moment tenure objects. tenure ≡ no_tenure;
   kept = λ name mode owner. record {
