@@ -22,8 +22,8 @@ pub record IsKept (claim : Claim) (Backs : ℕ → Tenure → Objects → Type 0
       → Backs moment (tenure_by_call claim moment op (reply_of objects moment op) tenure)
       (objects_after objects moment op)
 
--- The law of a kind's claims: how its objects back a claim by its name, its mode and its owner, and that
--- they don't back two claims that conflict while both tenures are current.
+-- The law of a kind's claims: how its objects back a claim by its name, its mode and its owner, and
+-- that they don't back two claims that conflict while both tenures are current.
 pub record ClaimLaw (kind : Kind) : Type 1 where
   pub Backs : List ℕ → HoldMode → ThreadOfClient → ℕ → Tenure → Objects → Type 0
   pub kept : (name : List ℕ) (mode : HoldMode) (owner : ThreadOfClient)
