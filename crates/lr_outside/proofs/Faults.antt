@@ -3,7 +3,8 @@ use Rattle.std.proofs.Common.{◌≡◌, Bool, true, false, ℕ, ◌-◌, ◌^�
 use Rattle.lr_outside.specs.Turns.{CountsFaults, Rose}
 
 -- a count never falls
-pub CountsFaults-later : (before now : ℕ) (failed : Bool) → CountsFaults before now failed → before ≤ now
+pub CountsFaults-later : (before now : ℕ) (failed : Bool) → CountsFaults before now failed
+    → before ≤ now
 CountsFaults-later before now true counts = counts.0
 CountsFaults-later before now false counts = omega arith
 
@@ -14,7 +15,8 @@ CountsFaults-rose before now counts = let is = counts.1 in omega arith
 -- where it did not rise, no call failed
 pub CountsFaults-not_failed : (before now : ℕ) (failed : Bool) → CountsFaults before now failed
     → (Rose before now → ⊥) → failed ≡ false
-CountsFaults-not_failed before now true counts same = absurd (same (CountsFaults-rose before now counts))
+CountsFaults-not_failed before now true counts same =
+    absurd (same (CountsFaults-rose before now counts))
 CountsFaults-not_failed before now false counts same = refl
 
 -- and it is as it was
@@ -24,14 +26,18 @@ CountsFaults-same before now true counts same = absurd (same (CountsFaults-rose 
 CountsFaults-same before now false counts same = counts
 
 -- a call behind calls that left it as it was
-pub CountsFaults-after : (before mid now : ℕ) (failed : Bool) → mid ≡ before → CountsFaults mid now failed
+pub CountsFaults-after : (before mid now : ℕ) (failed : Bool) → mid ≡ before
+    → CountsFaults mid now failed
     → CountsFaults before now failed
-CountsFaults-after before mid now failed same counts = let Counts : ℕ → Type 0 = λ n. CountsFaults n now failed in subst Counts same counts
+CountsFaults-after before mid now failed same counts =
+    let Counts : ℕ → Type 0 = λ n. CountsFaults n now failed in subst Counts same counts
 
 -- calls that leave it as it is behind one that counted
-pub CountsFaults-before : (before mid now : ℕ) (failed : Bool) → CountsFaults before mid failed → now ≡ mid
+pub CountsFaults-before : (before mid now : ℕ) (failed : Bool) → CountsFaults before mid failed
+    → now ≡ mid
     → CountsFaults before now failed
-CountsFaults-before before mid now failed counts same = let Counts : ℕ → Type 0 = λ n. CountsFaults before n failed in subst Counts (sym same) counts
+CountsFaults-before before mid now failed counts same =
+    let Counts : ℕ → Type 0 = λ n. CountsFaults before n failed in subst Counts (sym same) counts
 
 -- what rose once has risen, whatever is counted before and behind it
 pub Rose-from : (before mid now : ℕ) → before ≤ mid → Rose mid now → Rose before now

@@ -11,7 +11,8 @@ pub lines_of-other : (b : ℕ) (bs : List ℕ) → b ≢ 10 → lines_of (b ∷ 
 lines_of-other b bs other = grind (arith, nat_tests)
 
 -- a line that ends at an LF
-pub lines_of-line : (l rest : List ℕ) → HasNoLineEnd l → lines_of (l ++ 10 ∷ rest) ≡ l ∷ lines_of rest
+pub lines_of-line : (l rest : List ℕ) → HasNoLineEnd l
+    → lines_of (l ++ 10 ∷ rest) ≡ l ∷ lines_of rest
 lines_of-line [] rest whole = refl
 lines_of-line (b ∷ l) rest whole =
     lines_of-other b (l ++ 10 ∷ rest) (All-head (λ c. c ≢ 10) b l whole)
@@ -38,12 +39,14 @@ lines_of-some (b ∷ a) = elim (cases_eq b 10) [
   | inr other ↦ rw (lines_of-other b (a ++ 10 ∷ []) other) (with_first-some b (lines_of (a ++ 10 ∷ [])))
 ]
 
-with_first-append : (b : ℕ) (xs ys : List (List ℕ)) → 0 < length xs → with_first b (xs ++ ys) ≡ with_first b xs ++ ys
+with_first-append : (b : ℕ) (xs ys : List (List ℕ)) → 0 < length xs
+    → with_first b (xs ++ ys) ≡ with_first b xs ++ ys
 with_first-append b [] ys some = absurd (omega arith)
 with_first-append b (x ∷ xs) ys some = refl
 
 -- whole lines, and what stands behind them
-pub lines_of-append : (a b : List ℕ) → lines_of (a ++ 10 ∷ b) ≡ lines_of (a ++ 10 ∷ []) ++ lines_of b
+pub lines_of-append : (a b : List ℕ)
+    → lines_of (a ++ 10 ∷ b) ≡ lines_of (a ++ 10 ∷ []) ++ lines_of b
 lines_of-append [] b = refl
 lines_of-append (c ∷ a) b = elim (cases_eq c 10) [
   | inl is ↦ rw is (ap (λ (ls : List (List ℕ)). [] ∷ ls) (lines_of-append a b))
@@ -60,11 +63,13 @@ pub record Starts (front before : List ℕ) : Type 0 where
   pub others : List (List ℕ)
   pub lines : lines_of before ≡ (front ++ rest) ∷ others
 
-with_first-starts : (b : ℕ) (ls : List (List ℕ)) → (l : List ℕ) × (others : List (List ℕ)) × (with_first b ls ≡ (b ∷ l) ∷ others)
+with_first-starts : (b : ℕ) (ls : List (List ℕ))
+    → (l : List ℕ) × (others : List (List ℕ)) × (with_first b ls ≡ (b ∷ l) ∷ others)
 with_first-starts b [] = ([], [], refl)
 with_first-starts b (l ∷ ls) = (l, ls, refl)
 
-pub starts : (front rest : List ℕ) → HasNoLineEnd front → 0 < length front → Starts front (front ++ rest)
+pub starts : (front rest : List ℕ) → HasNoLineEnd front → 0 < length front
+    → Starts front (front ++ rest)
 starts [] rest whole some = absurd (omega arith)
 starts (b ∷ []) rest whole some =
     let first = with_first-starts b (lines_of rest) in
@@ -74,11 +79,13 @@ starts (b ∷ c ∷ front) rest whole some =
     record {
       rest = more.rest;
       others = more.others;
-      lines = lines_of-other b ((c ∷ front) ++ rest) (All-head (λ d. d ≢ 10) b (c ∷ front) whole) ∙ ap (with_first b) more.lines;
+      lines = lines_of-other b ((c ∷ front) ++ rest) (All-head (λ d. d ≢ 10) b (c ∷ front) whole)
+          ∙ ap (with_first b) more.lines;
     }
 
 -- so many bytes without LF make the first line too long
-pub begins_too_long : (before : List ℕ) (n : ℕ) → line_limit < n → n ≤ length before → HasNoLineEnd (take n before) → BeginsTooLong before
+pub begins_too_long : (before : List ℕ) (n : ℕ) → line_limit < n → n ≤ length before
+    → HasNoLineEnd (take n before) → BeginsTooLong before
 begins_too_long before n long within whole =
     let len = length-take-le n before within in
     let begun = starts (take n before) (drop n before) whole (omega arith) in

@@ -13,23 +13,30 @@ pub record IsPartlyWritten (old new : Option (List ℕ)) (text rest : List ℕ) 
   pub appended : Appends old new front
 
 -- nothing is
-pub IsPartlyWritten-none : (old : Option (List ℕ)) (text : List ℕ) → IsPartlyWritten old old text text
+pub IsPartlyWritten-none : (old : Option (List ℕ)) (text : List ℕ)
+    → IsPartlyWritten old old text text
 IsPartlyWritten-none old text = record { front = []; split = refl; appended = Appends-nil old }
 
 -- the first n bytes of the rest are written too
-pub IsPartlyWritten-more : (old mid new : Option (List ℕ)) (text rest : List ℕ) (n : ℕ) → IsPartlyWritten old mid text rest → Appends mid new (take n rest)
+pub IsPartlyWritten-more : (old mid new : Option (List ℕ)) (text rest : List ℕ) (n : ℕ)
+    → IsPartlyWritten old mid text rest → Appends mid new (take n rest)
     → IsPartlyWritten old new text (take (length rest - n) (drop n rest))
 IsPartlyWritten-more old mid new text rest n part more = record {
   front = part.front ++ take n rest;
-  split = part.split ∙ ap (λ l. part.front ++ l) (sym (take-append-drop n rest) ∙ ap (λ l. take n rest ++ l) (sym (take_rest rest n))) ∙ sym (append_assoc part.front (take n rest) _);
+  split = part.split
+      ∙ ap (λ l. part.front ++ l) (sym (take-append-drop n rest) ∙ ap (λ l. take n rest ++ l) (sym (take_rest rest n)))
+      ∙ sym (append_assoc part.front (take n rest) _);
   appended = Appends-trans old mid new part.front (take n rest) part.appended more;
 }
 
 -- all is
-pub IsPartlyWritten-all : (old new : Option (List ℕ)) (text rest : List ℕ) → IsPartlyWritten old new text rest → rest ≡ [] → Appends old new text
+pub IsPartlyWritten-all : (old new : Option (List ℕ)) (text rest : List ℕ)
+    → IsPartlyWritten old new text rest → rest ≡ [] → Appends old new text
 IsPartlyWritten-all old new text rest part none =
     subst (Appends old new) (sym (part.split ∙ ap (λ l. part.front ++ l) none ∙ append-nil part.front)) part.appended
 
 -- the next write fails
-pub IsPartlyWritten-failed : (old mid new : Option (List ℕ)) (text rest : List ℕ) → IsPartlyWritten old mid text rest → Keeps mid new → AppendsFront old new text
-IsPartlyWritten-failed old mid new text rest part kept = (part.front, rest, part.split, Appends-kept old mid new part.front part.appended kept)
+pub IsPartlyWritten-failed : (old mid new : Option (List ℕ)) (text rest : List ℕ)
+    → IsPartlyWritten old mid text rest → Keeps mid new → AppendsFront old new text
+IsPartlyWritten-failed old mid new text rest part kept =
+    (part.front, rest, part.split, Appends-kept old mid new part.front part.appended kept)

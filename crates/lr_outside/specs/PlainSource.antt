@@ -5,8 +5,8 @@ use Rattle.lr_outside.specs.declared.source.ReadTurn.TheVariants.{Got, End, Fail
 use Rattle.lr_outside.specs.declared.plain_source.PlainSource.{PlainSource}
 
 -- the bytes that reads have yet to give
-abbrev pub plain_left : PlainSource → List ℕ
-plain_left s = s.left.now
+abbrev pub plain_bytes_left : PlainSource → List ℕ
+plain_bytes_left s = s.left.now
 
 -- a read gives all that is left, or as much of it as there is room for, and never fails
 abbrev pub GivesAll : List ℕ → ℕ → ReadTurn → Type 0

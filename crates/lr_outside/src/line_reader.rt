@@ -136,7 +136,7 @@ impl LineReader {
         ensures stuck { IsTrue self.new.stuck ↔ (result ≡ LineTurn.TooLong) }
     {
         loop {
-            let searched = self.window.kept().len();
+            let searched = self.window.kept_bytes().len();
             match self.window.fill(source) {
                 ReadTurn::Got(_) => {
                     if let Some(turn) = self.take_kept(searched) {
@@ -157,7 +157,7 @@ impl LineReader {
         requires none { HasNoLineEnd (take searched self.old.kept) }
         ensures { IsKeptTurn self.old self.new result }
     {
-        let kept = self.window.kept();
+        let kept = self.window.kept_bytes();
         let len = line_len(kept, searched);
         match Line::of(&kept[..len]) {
             None => {
@@ -180,7 +180,7 @@ impl LineReader {
         requires undecided { IsUndecided self.old.kept }
         ensures { IsLastTurn self.old self.new result }
     {
-        let kept = self.window.kept();
+        let kept = self.window.kept_bytes();
         let len = kept.len();
         if len == 0 {
             return LineTurn::End;

@@ -1,6 +1,6 @@
 // Bytes in memory as a source that never fails.
 ghost use Rattle.std.specs.Prelude.{◌≡◌, ◌<◌, Some, length};
-ghost use Rattle.lr_outside.specs.PlainSource.{plain_left, GivesAll};
+ghost use Rattle.lr_outside.specs.PlainSource.{plain_bytes_left, GivesAll};
 ghost use Rattle.lr_outside.specs.Turns.{ReadsFront, is_failed_read, CountsFaults};
 
 use crate::{ReadTurn, Source};
@@ -15,25 +15,25 @@ pub struct PlainSource<'a> {
 impl<'a> PlainSource<'a> {
     /// A source of these bytes.
     pub fn new(bytes: &'a [u8]) -> Self
-        ensures { plain_left result ≡ bytes.now }
+        ensures { plain_bytes_left result ≡ bytes.now }
     {
         PlainSource { left: bytes }
     }
 }
 
 impl Source for PlainSource<'_> {
-    ghost left = { λ s. Some (plain_left s) };
+    ghost left = { λ s. Some (plain_bytes_left s) };
 
     ghost faults = { λ _. 0 };
 
     fn read(&mut self, buffer: &mut [u8]) -> ReadTurn
         requires { 0 < length buffer.old }
-        ensures bytes { ReadsFront (Some (plain_left self.old)) (Some (plain_left self.new))
-            buffer.new result }
+        ensures bytes { ReadsFront (Some (plain_bytes_left self.old))
+            (Some (plain_bytes_left self.new)) buffer.new result }
         ensures counts { CountsFaults 0 0 (is_failed_read result) }
 
         // Beyond what each source keeps: that it never fails, and how much it gives.
-        ensures all { GivesAll (plain_left self.old) (length buffer.old) result }
+        ensures all { GivesAll (plain_bytes_left self.old) (length buffer.old) result }
     {
         if self.left.is_empty() {
             return ReadTurn::End;

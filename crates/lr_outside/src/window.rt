@@ -33,7 +33,7 @@ impl Window {
     }
 
     /// The bytes that are kept.
-    pub fn kept(&self) -> &[u8]
+    pub fn kept_bytes(&self) -> &[u8]
         ensures { result.now ≡ kept_bytes self.now }
     {
         &self.buffer[self.start..self.end]
