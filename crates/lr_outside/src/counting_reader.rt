@@ -9,6 +9,9 @@ use std::io::Read;
 
 /// A reader with the count of its reads, so that what reads from it can promise how many it makes.
 /// The count stays at `u64::MAX`.
+///
+/// No contract can say that it makes one call itself, since std's readers don't tell how many they
+/// had; a test shows that it does.
 #[derive(Drop)]
 pub struct CountingReader<R> {
     reader: R,

@@ -9,6 +9,9 @@ use std::io::Write;
 
 /// A writer with the count of its writes, so that what writes to it can promise how many it makes.
 /// The count stays at `u64::MAX`.
+///
+/// No contract can say that it makes one call itself, since std's writers don't tell how many they
+/// had; a test shows that it does.
 #[derive(Drop)]
 pub struct CountingWriter<W> {
     writer: W,

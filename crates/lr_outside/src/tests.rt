@@ -1,9 +1,13 @@
+ghost use Rattle.std.specs.Prelude.{◌≡◌, IfOk};
+
 use crate::{
     InputSource, LineReader, LineTurn, MemSink, MemSource, OutputSink, PlainSink, PlainSource,
     ReadTurn, Sink, Source, Status, WriteTurn, write_whole,
 };
 use lr_limits::LINE_BYTES;
 use std::alloc::{AllocError, Global};
+use std::io;
+use std::io::{Read, Write};
 use std::test::Fail;
 
 const LONGEST: [u8; LINE_BYTES] = [b'x'; LINE_BYTES];
@@ -82,6 +86,52 @@ fn sources_give_bytes() -> bool {
         && reads(&mut input, &mut buffer, ReadTurn::End, b"db")
 }
 
+// A stream of std whose first call fails. Each later one takes all, or finds the end.
+#[derive(Drop)]
+struct FailsOnce {
+    has_failed: bool,
+}
+
+impl FailsOnce {
+    // The count, but an error at the first call.
+    fn count_or_fault(&mut self, count: usize) -> io::Result<usize>
+        ensures { IfOk result (λ n. n ≡ count) }
+    {
+        if self.has_failed {
+            return Ok(count);
+        }
+        self.has_failed = true;
+        Err(io::Error::from(io::ErrorKind::Interrupted))
+    }
+}
+
+impl Read for FailsOnce {
+    fn read(&mut self, _buf: &mut [u8]) -> io::Result<usize> {
+        self.count_or_fault(0)
+    }
+}
+
+impl Write for FailsOnce {
+    fn write(&mut self, buf: &[u8]) -> io::Result<usize> {
+        self.count_or_fault(buf.len())
+    }
+
+    fn flush(&mut self) -> io::Result<()> {
+        Ok(())
+    }
+}
+
+// A call of std that fails isn't tried again, be it that it was only interrupted.
+fn faults_are_told() -> bool {
+    let mut buffer = [0; 2];
+    let mut input = InputSource::new(FailsOnce { has_failed: false });
+    let mut output = OutputSink::new(FailsOnce { has_failed: false });
+    reads(&mut input, &mut buffer, ReadTurn::Failed, &[0, 0])
+        && reads(&mut input, &mut buffer, ReadTurn::End, &[0, 0])
+        && output.write(b"a") == WriteTurn::Failed
+        && output.write(b"a") == WriteTurn::Took(1)
+}
+
 // Sinks take what they are given, and a sink in memory fails at the writes that it was told.
 fn sinks_take_bytes(alloc: Global) -> bool {
     let mut sink = MemSink::new(alloc, &[2]);
@@ -96,6 +146,7 @@ fn sinks_take_bytes(alloc: Global) -> bool {
 #[test]
 fn bytes_come_and_go(rt: HostRuntime) -> Result<(), Fail> {
     let number = Status::BadLine(7).number();
-    assert!(rt; number == 5 && sources_give_bytes() && sinks_take_bytes(rt.alloc()));
+    assert!(rt; number == 5 && sources_give_bytes() && faults_are_told());
+    assert!(rt; sinks_take_bytes(rt.alloc()));
     Ok(())
 }
