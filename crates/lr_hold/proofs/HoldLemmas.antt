@@ -1,6 +1,5 @@
 -- The steps on the key of a hold, by what is held there.
-use Rattle.std.proofs.Common.{◌≡◌, ◌≢◌, ◌≤◌, ◌<◌, ◌+◌, ◌-◌, ◌==◌, ℕ, ℤ, pos, ◌+ℤ◌, negsuc, Bool, true, false, ◌&&◌, cond, IsTrue, List, [], ◌∷◌, Option, Some, None, is_some, Result, Ok, refl, ap, sym, subst, ◌∙◌, arith}
-use Rattle.std.specs.Option.{ForSome}
+use Rattle.std.proofs.Common.{◌≡◌, ◌≤◌, ◌<◌, ◌+◌, ◌-◌, ◌==◌, ℕ, ℤ, pos, ◌+ℤ◌, negsuc, Bool, true, false, ◌&&◌, cond, IsTrue, List, Option, Some, None, is_some, Result, Ok, refl, ap, sym, subst, ◌∙◌, arith}
 use Rattle.std.specs.Str.{bytes_eq}
 use Rattle.std.proofs.lemmas.Bool.Decides.{nat_tests}
 use Rattle.std.proofs.lemmas.Int.{ints}
@@ -14,17 +13,16 @@ use Rattle.lr_names.specs.declared.post.Post.{Post}
 use Rattle.lr_names.proofs.OwnerLaws.{owner_text-injective}
 use Rattle.lr_keys.specs.FieldMap.{is_i64}
 use Rattle.lr_keys.specs.declared.fault.KeyFault.{KeyFault}
-use Rattle.lr_keys.specs.KeySpace.{KeyEntry, Keys, Fields, entry_at, field_at}
-use Rattle.lr_keys.specs.Table.{with_key}
-use Rattle.lr_keys.proofs.TableLaws.{bytes_eq-same, same_bytes, bytes_eq-other, with_key-own}
+use Rattle.lr_keys.specs.KeySpace.{KeyEntry, Keys, ChangesEntry, entry_at, field_at}
+use Rattle.lr_keys.proofs.TableLaws.{bytes_eq-same, same_bytes, bytes_eq-other, with_key-same}
 use Rattle.lr_objects.specs.declared.reply.Reply.{Reply}
 use Rattle.lr_objects.specs.declared.reply.Reply.TheVariants.{Granted, Busy, Kept, Freed, NotHeld, Renewed, Lost, TooDeep}
 use Rattle.lr_model.specs.declared.hold.Hold.{Hold}
-use Rattle.lr_model.specs.Hold.{take_hold, give_back_hold, renew_hold, end_hold, holding, freeing}
+use Rattle.lr_model.specs.Hold.{take_hold, give_back_hold, renew_hold, holding, freeing}
 use Rattle.lr_model.specs.Moment.{is_lease}
 use Rattle.lr_model.specs.Outcome.{Outcome, silent_outcome}
 use Rattle.lr_hold.specs.Holds.{IsHold, expiry_of, hold_entry}
-use Rattle.lr_hold.specs.Step.{IsLiveHold, IsHeld, IsHoldStep, hold_count}
+use Rattle.lr_hold.specs.Step.{ChangesOnly, IsLiveHold, IsHeld, IsHoldStep, hold_count, one_field}
 
 -- owners that are the same
 same_owners : (a b : ThreadOfClient) → same_owner a b ≡ true → a ≡ b
@@ -170,104 +168,110 @@ module _ (moment : ℕ) (early : moment ≤ last_moment) (owner : ThreadOfClient
       let other : (moment + lease == never) ≡ false = grind (arith, nat_tests) in
       ap (λ b. cond b None (Some (moment + lease))) other
 
--- a step that leaves the keys as they are
-unchanged_step : (keys : Keys) (key : List ℕ) (reply : Reply) (held : Option Hold) → IsHeld keys.moment (entry_at keys key) held → IsHoldStep keys keys key reply (silent_outcome reply held)
-unchanged_step keys key reply held at = record {
-  answer = refl;
-  entries = sym (ap (λ o. with_key key o (entry_at keys)) (sym at.stands) ∙ with_key-own key (entry_at keys));
-  hold = at.hold;
-}
+-- of the keys only the written one changes
+pub ChangesOnly-ChangesEntry : (old new : Keys) (key : List ℕ) (change : Option KeyEntry → Option KeyEntry) → ChangesEntry old new key change → ChangesOnly key old new
+ChangesOnly-ChangesEntry old new key change entries = λ q other.
+    ap (λ (f : List ℕ → Option KeyEntry). f q) entries ∙ ap (λ b. cond b (change (entry_at old key)) (entry_at old q)) other
+
+-- and that has what was written
+pub entry_at-ChangesEntry : (old new : Keys) (key : List ℕ) (change : Option KeyEntry → Option KeyEntry) → ChangesEntry old new key change → entry_at new key ≡ change (entry_at old key)
+entry_at-ChangesEntry old new key change entries = ap (λ (f : List ℕ → Option KeyEntry). f key) entries ∙ with_key-same key (change (entry_at old key)) (entry_at old)
 
 module _ (old : Keys) (owner : ThreadOfClient) (key : List ℕ) where
   -- too deep
-  pub full_step : (lease : ℕ) (held : Option Hold) → IsHeld old.moment (entry_at old key) held → hold_limit ≤ hold_count owner held → IsHoldStep old old key TooDeep (take_hold old.moment owner lease held)
-  full_step lease held at full = subst (IsHoldStep old old key TooDeep) (sym (take_hold-full old.moment owner lease held at.hold full)) (unchanged_step old key TooDeep held at)
+  pub full_step : (lease : ℕ) (held : Option Hold) → IsHeld old.moment (entry_at old key) held → hold_limit ≤ hold_count owner held → IsHoldStep old key TooDeep (take_hold old.moment owner lease held)
+  full_step lease held at full = subst (IsHoldStep old key TooDeep) (sym (take_hold-full old.moment owner lease held at.hold full)) (record { answer = refl; held = at })
 
   -- busy: somebody holds it, and not the owner
   pub busy_step : (lease millis : ℕ) (held : Option Hold) → IsHeld old.moment (entry_at old key) held → hold_count owner held ≡ 0 → true ≡ is_some (entry_at old key)
-      → ((hold : Hold) → IsHeld old.moment (entry_at old key) (Some hold) → millis ≡ hold.deadline - old.moment) → IsHoldStep old old key (Busy millis) (take_hold old.moment owner lease held)
+      → ((hold : Hold) → IsHeld old.moment (entry_at old key) (Some hold) → millis ≡ hold.deadline - old.moment) → IsHoldStep old key (Busy millis) (take_hold old.moment owner lease held)
   busy_step lease millis None at none there left = absurd (cc (there ∙ ap is_some at.stands))
   busy_step lease millis (Some hold) at none there left =
-      subst (IsHoldStep old old key (Busy millis)) (sym (take_hold-other old.moment owner lease hold (at.hold.within hold refl) none))
-      (subst (λ n. IsHoldStep old old key (Busy millis) (silent_outcome (Busy n) (Some hold))) (left hold at) (unchanged_step old key (Busy millis) (Some hold) at))
+      subst (IsHoldStep old key (Busy millis)) (sym (take_hold-other old.moment owner lease hold (at.hold.within hold refl) none))
+      (record { answer = ap (λ n. Busy n) (left hold at); held = at })
 
   -- nothing to give back, or to renew
-  pub not_held_step : (post : Option Post) (rest : ℕ) (held : Option Hold) → IsHeld old.moment (entry_at old key) held → hold_count owner held ≡ 0 → IsHoldStep old old key NotHeld (give_back_hold post old.moment owner rest held)
-  not_held_step post rest held at none = subst (IsHoldStep old old key NotHeld) (sym (give_back_hold-none old.moment owner post rest held at.hold none)) (unchanged_step old key NotHeld held at)
+  pub not_held_step : (post : Option Post) (rest : ℕ) (held : Option Hold) → IsHeld old.moment (entry_at old key) held → hold_count owner held ≡ 0 → IsHoldStep old key NotHeld (give_back_hold post old.moment owner rest held)
+  not_held_step post rest held at none = subst (IsHoldStep old key NotHeld) (sym (give_back_hold-none old.moment owner post rest held at.hold none)) (record { answer = refl; held = at })
 
-  pub lost_step : (lease : ℕ) (held : Option Hold) → IsHeld old.moment (entry_at old key) held → hold_count owner held ≡ 0 → IsHoldStep old old key Lost (renew_hold old.moment owner lease held)
-  lost_step lease held at none = subst (IsHoldStep old old key Lost) (sym (renew_hold-none old.moment owner lease held at.hold none)) (unchanged_step old key Lost held at)
+  pub lost_step : (lease : ℕ) (held : Option Hold) → IsHeld old.moment (entry_at old key) held → hold_count owner held ≡ 0 → IsHoldStep old key Lost (renew_hold old.moment owner lease held)
+  lost_step lease held at none = subst (IsHoldStep old key Lost) (sym (renew_hold-none old.moment owner lease held at.hold none)) (record { answer = refl; held = at })
 
--- a hash of one field
-abbrev pub one_field : List ℕ → ℤ → Option ℕ → KeyEntry
-one_field field number expiry = record { value = Fields ((field, number) ∷ []); expiry = expiry }
+module _ (old new : Keys) (key : List ℕ) (now : new.moment ≡ old.moment) where
+  -- nothing is held any longer
+  freed_step : (post : Option Post) → entry_at new key ≡ None → IsHoldStep new key Freed (freeing post)
+  freed_step post gone = record { answer = refl; held = record { stands = gone; hold = live_none new.moment } }
 
-module _ (old new : Keys) (key : List ℕ) (early : old.moment ≤ last_moment) (owner : ThreadOfClient) (in_owner : IsOwner owner) where
-  -- what `add` promises: where nothing is held, and of what the owner holds
-  abbrev pub IsMade : ℤ → ℕ → List ℕ → Type 0
-  IsMade by lease text = entry_at old key ≡ None → entry_at new ≡ with_key key (Some (one_field text by (Some (old.moment + lease)))) (entry_at old)
+  module _ (early : old.moment ≤ last_moment) (owner : ThreadOfClient) (in_owner : IsOwner owner) where
+    -- what `add` promises: where nothing is held, and of what the owner holds
+    abbrev pub IsMade : ℤ → ℕ → List ℕ → Type 0
+    IsMade by lease text = entry_at old key ≡ None → entry_at new key ≡ Some (one_field text by (Some (old.moment + lease)))
 
-  abbrev pub IsAdded : ℤ → ℕ → List ℕ → Type 0
-  IsAdded by lease text = (count : ℤ) (expiry : Option ℕ) → entry_at old key ≡ Some (one_field text count expiry) → IsTrue (is_i64 (count +ℤ by))
-      → entry_at new ≡ with_key key (Some (one_field text (count +ℤ by) (Some (old.moment + lease)))) (entry_at old)
+    abbrev pub IsAdded : ℤ → ℕ → List ℕ → Type 0
+    IsAdded by lease text = (count : ℤ) (expiry : Option ℕ) → entry_at old key ≡ Some (one_field text count expiry) → IsTrue (is_i64 (count +ℤ by))
+        → entry_at new key ≡ Some (one_field text (count +ℤ by) (Some (old.moment + lease)))
 
-  -- the entry of the owner's hold
-  own_entry : (hold : Hold) → hold.owner ≡ owner → Some (hold_entry hold) ≡ Some (one_field (owner_text owner) (pos hold.count) (expiry_of hold.deadline))
-  own_entry hold mine = ap (λ o. Some (one_field (owner_text o) (pos hold.count) (expiry_of hold.deadline))) mine
+    -- the entry of the owner's hold
+    own_entry : (hold : Hold) → hold.owner ≡ owner → Some (hold_entry hold) ≡ Some (one_field (owner_text owner) (pos hold.count) (expiry_of hold.deadline))
+    own_entry hold mine = ap (λ o. Some (one_field (owner_text o) (pos hold.count) (expiry_of hold.deadline))) mine
 
-  -- the owner holds it so often, for this lease from now on
-  holding_step : (reply : Reply) (count lease : ℕ) → is_lease lease ≡ true → 1 ≤ count → count ≤ hold_limit
-      → entry_at new ≡ with_key key (Some (one_field (owner_text owner) (pos count) (Some (old.moment + lease)))) (entry_at old)
-      → IsHoldStep old new key reply (holding reply owner count (old.moment + lease))
-  holding_step reply count lease test some most entries = record {
-    answer = refl;
-    entries = entries ∙ ap (λ e. with_key key (Some (one_field (owner_text owner) (pos count) e)) (entry_at old)) (sym (expiry_of-now old.moment early owner in_owner count lease test));
-    hold = live_now old.moment early owner in_owner count lease test some most;
-  }
+    -- the owner holds it so often, for this lease from now on
+    holding_step : (reply : Reply) (count lease : ℕ) → is_lease lease ≡ true → 1 ≤ count → count ≤ hold_limit
+        → entry_at new key ≡ Some (one_field (owner_text owner) (pos count) (Some (old.moment + lease)))
+        → IsHoldStep new key reply (holding reply owner count (old.moment + lease))
+    holding_step reply count lease test some most entry =
+        let live : IsLiveHold old.moment (Some (record { owner = owner; count = count; deadline = old.moment + lease })) = live_now old.moment early owner in_owner count lease test some most in
+        record {
+          answer = refl;
+          held = record {
+            stands = entry ∙ ap (λ e. Some (one_field (owner_text owner) (pos count) e)) (sym (expiry_of-now old.moment early owner in_owner count lease test));
+            hold = subst (λ m. IsLiveHold m (Some (record { owner = owner; count = count; deadline = old.moment + lease }))) (sym now) live;
+          };
+        }
 
-  granted_by_text : (lease : ℕ) (held : Option Hold) → is_lease lease ≡ true → IsHeld old.moment (entry_at old key) held → hold_count owner held < hold_limit → (hold_count owner held ≡ 0 → entry_at old key ≡ None)
-      → IsMade (pos 1) lease (owner_text owner) → IsAdded (pos 1) lease (owner_text owner) → IsHoldStep old new key Granted (take_hold old.moment owner lease held)
-  granted_by_text lease None test at few free made added = holding_step Granted 1 lease test (omega arith) (omega arith) (made at.stands)
-  granted_by_text lease (Some hold) test at few free made added = by (same_owner hold.owner owner) refl
-    where
-      fits : (n : ℕ) → n < hold_limit → IsTrue (is_i64 (pos n +ℤ pos 1))
-      fits n small = grind (arith, ints)
+    granted_by_text : (lease : ℕ) (held : Option Hold) → is_lease lease ≡ true → IsHeld old.moment (entry_at old key) held → hold_count owner held < hold_limit → (hold_count owner held ≡ 0 → entry_at old key ≡ None)
+        → IsMade (pos 1) lease (owner_text owner) → IsAdded (pos 1) lease (owner_text owner) → IsHoldStep new key Granted (take_hold old.moment owner lease held)
+    granted_by_text lease None test at few free made added = holding_step Granted 1 lease test (omega arith) (omega arith) (made at.stands)
+    granted_by_text lease (Some hold) test at few free made added = by (same_owner hold.owner owner) refl
+      where
+        fits : (n : ℕ) → n < hold_limit → IsTrue (is_i64 (pos n +ℤ pos 1))
+        fits n small = grind (arith, ints)
 
-      by : (s : Bool) → same_owner hold.owner owner ≡ s → IsHoldStep old new key Granted (take_hold old.moment owner lease (Some hold))
-      by true mine =
-          let same = ap (λ b. cond b hold.count 0) mine in
-          let small : hold.count < hold_limit = omega arith in
-          subst (IsHoldStep old new key Granted) (sym (take_hold-more old.moment owner lease hold mine small))
-          (holding_step Granted (hold.count + 1) lease test (omega arith) (omega arith)
-          (added (pos hold.count) (expiry_of hold.deadline) (at.stands ∙ own_entry hold (same_owners hold.owner owner mine)) (fits hold.count small)))
-      by false other = absurd (cc (sym (free (ap (λ b. cond b hold.count 0) other)) ∙ at.stands))
+        by : (s : Bool) → same_owner hold.owner owner ≡ s → IsHoldStep new key Granted (take_hold old.moment owner lease (Some hold))
+        by true mine =
+            let same = ap (λ b. cond b hold.count 0) mine in
+            let small : hold.count < hold_limit = omega arith in
+            subst (IsHoldStep new key Granted) (sym (take_hold-more old.moment owner lease hold mine small))
+            (holding_step Granted (hold.count + 1) lease test (omega arith) (omega arith)
+            (added (pos hold.count) (expiry_of hold.deadline) (at.stands ∙ own_entry hold (same_owners hold.owner owner mine)) (fits hold.count small)))
+        by false other = absurd (cc (sym (free (ap (λ b. cond b hold.count 0) other)) ∙ at.stands))
 
-  pub granted_step : (lease : ℕ) (text : List ℕ) (held : Option Hold) → is_lease lease ≡ true → text ≡ owner_text owner → IsHeld old.moment (entry_at old key) held → hold_count owner held < hold_limit → (hold_count owner held ≡ 0 → entry_at old key ≡ None)
-      → IsMade (pos 1) lease text → IsAdded (pos 1) lease text → IsHoldStep old new key Granted (take_hold old.moment owner lease held)
-  granted_step lease text held test is at few free made added = granted_by_text lease held test at few free (subst (IsMade (pos 1) lease) is made) (subst (IsAdded (pos 1) lease) is added)
+    pub granted_step : (lease : ℕ) (text : List ℕ) (held : Option Hold) → is_lease lease ≡ true → text ≡ owner_text owner → IsHeld old.moment (entry_at old key) held → hold_count owner held < hold_limit
+        → (hold_count owner held ≡ 0 → entry_at old key ≡ None) → IsMade (pos 1) lease text → IsAdded (pos 1) lease text → IsHoldStep new key Granted (take_hold old.moment owner lease held)
+    granted_step lease text held test is at few free made added = granted_by_text lease held test at few free (subst (IsMade (pos 1) lease) is made) (subst (IsAdded (pos 1) lease) is added)
 
-  kept_by_text : (post : Option Post) (rest : ℕ) (held : Option Hold) → is_lease rest ≡ true → IsHeld old.moment (entry_at old key) held → 1 < hold_count owner held
-      → IsAdded (negsuc 0) rest (owner_text owner) → IsHoldStep old new key Kept (give_back_hold post old.moment owner rest held)
-  kept_by_text post rest None test at many added = absurd (omega arith)
-  kept_by_text post rest (Some hold) test at many added = by (same_owner hold.owner owner) refl
-    where
-      one_less : (n : ℕ) → 1 < n → pos n +ℤ negsuc 0 ≡ pos (n - 1)
-      one_less n many = omega (arith, ints)
+    kept_by_text : (post : Option Post) (rest : ℕ) (held : Option Hold) → is_lease rest ≡ true → IsHeld old.moment (entry_at old key) held → 1 < hold_count owner held
+        → IsAdded (negsuc 0) rest (owner_text owner) → IsHoldStep new key Kept (give_back_hold post old.moment owner rest held)
+    kept_by_text post rest None test at many added = absurd (omega arith)
+    kept_by_text post rest (Some hold) test at many added = by (same_owner hold.owner owner) refl
+      where
+        one_less : (n : ℕ) → 1 < n → pos n +ℤ negsuc 0 ≡ pos (n - 1)
+        one_less n many = omega (arith, ints)
 
-      fits : (n : ℕ) → 1 < n → n ≤ hold_limit → IsTrue (is_i64 (pos n +ℤ negsuc 0))
-      fits n many few = grind (arith, ints)
+        fits : (n : ℕ) → 1 < n → n ≤ hold_limit → IsTrue (is_i64 (pos n +ℤ negsuc 0))
+        fits n many few = grind (arith, ints)
 
-      by : (s : Bool) → same_owner hold.owner owner ≡ s → IsHoldStep old new key Kept (give_back_hold post old.moment owner rest (Some hold))
-      by true mine =
-          let same = ap (λ b. cond b hold.count 0) mine in
-          let several : 1 < hold.count = omega arith in
-          let most = (at.hold.within hold refl).most in
-          subst (IsHoldStep old new key Kept) (sym (give_back_hold-more old.moment owner post rest hold mine several))
-          (holding_step Kept (hold.count - 1) rest test (omega arith) (omega arith)
-          (added (pos hold.count) (expiry_of hold.deadline) (at.stands ∙ own_entry hold (same_owners hold.owner owner mine)) (fits hold.count several most)
-          ∙ ap (λ n. with_key key (Some (one_field (owner_text owner) n (Some (old.moment + rest)))) (entry_at old)) (one_less hold.count several)))
-      by false other = let none = ap (λ b. cond b hold.count 0) other in absurd (omega arith)
+        by : (s : Bool) → same_owner hold.owner owner ≡ s → IsHoldStep new key Kept (give_back_hold post old.moment owner rest (Some hold))
+        by true mine =
+            let same = ap (λ b. cond b hold.count 0) mine in
+            let several : 1 < hold.count = omega arith in
+            let most = (at.hold.within hold refl).most in
+            subst (IsHoldStep new key Kept) (sym (give_back_hold-more old.moment owner post rest hold mine several))
+            (holding_step Kept (hold.count - 1) rest test (omega arith) (omega arith)
+            (added (pos hold.count) (expiry_of hold.deadline) (at.stands ∙ own_entry hold (same_owners hold.owner owner mine)) (fits hold.count several most)
+            ∙ ap (λ n. Some (one_field (owner_text owner) n (Some (old.moment + rest)))) (one_less hold.count several)))
+        by false other = let none = ap (λ b. cond b hold.count 0) other in absurd (omega arith)
 
-  pub kept_step : (post : Option Post) (rest : ℕ) (text : List ℕ) (held : Option Hold) → is_lease rest ≡ true → text ≡ owner_text owner → IsHeld old.moment (entry_at old key) held → 1 < hold_count owner held
-      → IsAdded (negsuc 0) rest text → IsHoldStep old new key Kept (give_back_hold post old.moment owner rest held)
-  kept_step post rest text held test is at many added = kept_by_text post rest held test at many (subst (IsAdded (negsuc 0) rest) is added)
+    pub kept_step : (post : Option Post) (rest : ℕ) (text : List ℕ) (held : Option Hold) → is_lease rest ≡ true → text ≡ owner_text owner → IsHeld old.moment (entry_at old key) held → 1 < hold_count owner held
+        → IsAdded (negsuc 0) rest text → IsHoldStep new key Kept (give_back_hold post old.moment owner rest held)
+    kept_step post rest text held test is at many added = kept_by_text post rest held test at many (subst (IsAdded (negsuc 0) rest) is added)

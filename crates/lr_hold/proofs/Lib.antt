@@ -1,1 +1,3 @@
 pub mod HoldLemmas
+pub mod HoldsLaws
+pub mod PostLaws

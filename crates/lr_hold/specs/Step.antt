@@ -1,9 +1,9 @@
 -- What a step does to the key of one hold, at the moment of the keys.
-use Rattle.std.specs.Prelude.{◌≡◌, ◌<◌, ℕ, List, Bool, true, false, Option, Some, None, option_map, if◌then◌else◌}
+use Rattle.std.specs.Prelude.{◌≡◌, ◌<◌, ℕ, ℤ, List, [], ◌∷◌, Bool, true, false, Option, Some, None, option_map, if◌then◌else◌}
 use Rattle.std.specs.Option.{ForSome}
+use Rattle.std.specs.Str.{bytes_eq}
 use Rattle.lr_names.specs.Owner.{ThreadOfClient, same_owner}
-use Rattle.lr_keys.specs.KeySpace.{KeyEntry, Keys, entry_at}
-use Rattle.lr_keys.specs.Table.{with_key}
+use Rattle.lr_keys.specs.KeySpace.{Fields, KeyEntry, Keys, entry_at}
 use Rattle.lr_objects.specs.declared.reply.Reply.{Reply}
 use Rattle.lr_objects.specs.declared.reply.Reply.TheVariants.{Freed}
 use Rattle.lr_model.specs.declared.hold.Hold.{Hold}
@@ -20,18 +20,24 @@ pub record IsHeld (moment : ℕ) (entry : Option KeyEntry) (held : Option Hold) 
   pub stands : entry ≡ option_map hold_entry held
   pub hold : IsLiveHold moment held
 
--- The reply is that of the outcome, and of the keys one is changed: it has the entry of what is
--- held afterwards.
-pub record IsHoldStep (old new : Keys) (key : List ℕ) (reply : Reply)
+-- the step was answered as the outcome says, and the outcome's hold is held under the key now
+pub record IsHoldStep (new : Keys) (key : List ℕ) (reply : Reply)
     (outcome : Outcome (Option Hold)) : Type 0 where
   pub answer : reply ≡ outcome.reply
-  pub entries : entry_at new ≡ with_key key (option_map hold_entry outcome.object) (entry_at old)
-  pub hold : IsLiveHold old.moment outcome.object
+  pub held : IsHeld new.moment (entry_at new key) outcome.object
+
+-- of the keys no other than this one changes
+abbrev pub ChangesOnly : List ℕ → Keys → Keys → Type 0
+ChangesOnly key old new = (q : List ℕ) → bytes_eq key q ≡ false → entry_at new q ≡ entry_at old q
 
 -- how many times an owner holds what is held so
 abbrev pub hold_count : ThreadOfClient → Option Hold → ℕ
 hold_count owner None = 0
 hold_count owner (Some hold) = if same_owner hold.owner owner then hold.count else 0
+
+-- a hash with one field
+abbrev pub one_field : List ℕ → ℤ → Option ℕ → KeyEntry
+one_field field number expiry = record { value = Fields ((field, number) ∷ []); expiry = expiry }
 
 -- whether the reply says that what was held has come free: those who wait are told
 abbrev pub is_freed : Reply → Bool

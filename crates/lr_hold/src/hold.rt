@@ -34,5 +34,6 @@ pub fn remaining(keys: &KeySpace, key: &Brief) -> Remaining
 {
     let left = keys.pttl(key);
     let moment = keys.moment();
-    Remaining::new(if left > 0 { left as u64 } else { NEVER - moment })
+    let millis = if left > 0 { left as u64 } else { NEVER - moment };
+    Remaining::new(millis)
 }

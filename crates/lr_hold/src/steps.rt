@@ -1,14 +1,14 @@
 //! The steps on what is held under a key, at the moment of the keys.
-ghost use Rattle.std.specs.Prelude.{◌≡◌, ◌+◌, ◌≤◌, ℕ, ℤ, pos, ◌+ℤ◌, List, [], ◌∷◌, Option, None, Some, IsTrue};
+ghost use Rattle.std.specs.Prelude.{◌≡◌, ◌+◌, ℕ, ℤ, ◌+ℤ◌, Option, None, Some, IsTrue};
 ghost use Rattle.lr_keys.specs.FieldMap.{is_i64};
-ghost use Rattle.lr_keys.specs.KeySpace.{Fields, IsPrepared, entry_at};
+ghost use Rattle.lr_keys.specs.KeySpace.{IsPrepared, entry_at};
 ghost use Rattle.lr_keys.specs.Table.{with_key};
 ghost use Rattle.lr_model.specs.declared.hold.Hold.{Hold};
 ghost use Rattle.lr_model.specs.Hold.{take_hold, give_back_hold, renew_hold, end_hold};
 ghost use Rattle.lr_model.specs.Moment.{is_lease};
 ghost use Rattle.lr_names.specs.Owner.{owner_text};
 ghost use Rattle.lr_names.specs.declared.post.Post.{Post};
-ghost use Rattle.lr_hold.specs.Step.{IsHeld, IsHoldStep};
+ghost use Rattle.lr_hold.specs.Step.{ChangesOnly, IsHeld, IsHoldStep, one_field};
 
 use crate::hold::{hold_count, remaining};
 use lr_keys::{KeySpace, ValueKind};
@@ -22,15 +22,13 @@ use std::alloc::Global;
 fn add(alloc: Global, keys: &mut KeySpace, key: &Brief, owner: &Brief, by: i64, lease: u64)
     requires lease { IsTrue (is_lease lease) }
     ensures made { IsPrepared keys.old key.now ValueKind.Hash owner.now → entry_at keys.old key.now ≡ None
-        → entry_at keys.new ≡ with_key key.now
-            (Some (record { value = Fields ((owner.now, by) ∷ []); expiry = Some (keys.old.moment + lease) }))
-            (entry_at keys.old) }
+        → entry_at keys.new key.now ≡ Some (one_field owner.now by (Some (keys.old.moment + lease))) }
     ensures added { (count : ℤ) (expiry : Option ℕ)
-        → entry_at keys.old key.now ≡ Some (record { value = Fields ((owner.now, count) ∷ []); expiry = expiry })
+        → entry_at keys.old key.now ≡ Some (one_field owner.now count expiry)
         → IsTrue (is_i64 (count +ℤ by))
-        → entry_at keys.new ≡ with_key key.now
-            (Some (record { value = Fields ((owner.now, count +ℤ by) ∷ []); expiry = Some (keys.old.moment + lease) }))
-            (entry_at keys.old) }
+        → entry_at keys.new key.now
+        ≡ Some (one_field owner.now (count +ℤ by) (Some (keys.old.moment + lease))) }
+    ensures others { ChangesOnly key.now keys.old keys.new }
     ensures moment { keys.new.moment ≡ keys.old.moment }
 {
     // It can't fail: the field is there, or it was prepared.
@@ -39,18 +37,13 @@ fn add(alloc: Global, keys: &mut KeySpace, key: &Brief, owner: &Brief, by: i64, 
 }
 
 /// Takes what nobody holds, or takes it once more, for this lease from now on.
-pub fn take(
-    alloc: Global,
-    keys: &mut KeySpace,
-    key: &Brief,
-    owner: &Owner,
-    lease: u64,
-) -> Reply
+pub fn take(alloc: Global, keys: &mut KeySpace, key: &Brief, owner: &Owner, lease: u64) -> Reply
     requires lease { IsTrue (is_lease lease) }
     requires memory { entry_at keys.old key.now ≡ None
         → IsPrepared keys.old key.now ValueKind.Hash (owner_text owner.now) }
     ensures step { (held : Option Hold) → IsHeld keys.old.moment (entry_at keys.old key.now) held
-        → IsHoldStep keys.old keys.new key.now result (take_hold keys.old.moment owner.now lease held) }
+        → IsHoldStep keys.new key.now result (take_hold keys.old.moment owner.now lease held) }
+    ensures others { ChangesOnly key.now keys.old keys.new }
     ensures moment { keys.new.moment ≡ keys.old.moment }
 {
     let count = hold_count(keys, key, owner);
@@ -65,17 +58,12 @@ pub fn take(
 }
 
 /// Gives one hold back. What stays held lasts for the rest lease from now on.
-pub fn give_back(
-    alloc: Global,
-    keys: &mut KeySpace,
-    key: &Brief,
-    owner: &Owner,
-    rest: u64,
-) -> Reply
+pub fn give_back(alloc: Global, keys: &mut KeySpace, key: &Brief, owner: &Owner, rest: u64) -> Reply
     requires lease { IsTrue (is_lease rest) }
     ensures step { (post : Option Post) (held : Option Hold)
         → IsHeld keys.old.moment (entry_at keys.old key.now) held
-        → IsHoldStep keys.old keys.new key.now result (give_back_hold post keys.old.moment owner.now rest held) }
+        → IsHoldStep keys.new key.now result (give_back_hold post keys.old.moment owner.now rest held) }
+    ensures others { ChangesOnly key.now keys.old keys.new }
     ensures moment { keys.new.moment ≡ keys.old.moment }
 {
     let count = hold_count(keys, key, owner);
@@ -94,7 +82,8 @@ pub fn give_back(
 pub fn renew(keys: &mut KeySpace, key: &Brief, owner: &Owner, lease: u64) -> Reply
     requires lease { IsTrue (is_lease lease) }
     ensures step { (held : Option Hold) → IsHeld keys.old.moment (entry_at keys.old key.now) held
-        → IsHoldStep keys.old keys.new key.now result (renew_hold keys.old.moment owner.now lease held) }
+        → IsHoldStep keys.new key.now result (renew_hold keys.old.moment owner.now lease held) }
+    ensures others { ChangesOnly key.now keys.old keys.new }
     ensures moment { keys.new.moment ≡ keys.old.moment }
 {
     if hold_count(keys, key, owner) == 0 {
@@ -108,7 +97,8 @@ pub fn renew(keys: &mut KeySpace, key: &Brief, owner: &Owner, lease: u64) -> Rep
 pub fn end(keys: &mut KeySpace, key: &Brief) -> Reply
     ensures step { (post : Option Post) (held : Option Hold)
         → IsHeld keys.old.moment (entry_at keys.old key.now) held
-        → IsHoldStep keys.old keys.new key.now result (end_hold post held) }
+        → IsHoldStep keys.new key.now result (end_hold post held) }
+    ensures others { ChangesOnly key.now keys.old keys.new }
     ensures moment { keys.new.moment ≡ keys.old.moment }
 {
     if keys.del(key) {

@@ -28,7 +28,7 @@ pub(crate) fn lock_try(
     requires early { moment ≤ last_moment }
     ensures run { let m = max keys.old.moment moment in IfOk result (λ reply.
         IsRun keys.old keys.new m name.now reply
-            (λ objects. on_mutex objects name.now (lock_try m owner.now lease))) }
+        (λ objects. on_mutex objects name.now (lock_try m owner.now lease))) }
     ensures succeeds { let m = max keys.old.moment moment in
         is_lease lease && is_none (live_entry m (entry_at keys.old (key_text Part.Lock name.now))) ≡ false
         → IsOk result }

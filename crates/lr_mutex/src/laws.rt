@@ -20,6 +20,6 @@ pub fn mutexes_stand_later()
     ensures { (old new : Keys) (objects : Objects) → MutexesStand old objects
         → old.moment ≤ new.moment → new.moment ≤ last_moment
         → ((name : List ℕ) → IsName name
-            → entry_at new (key_text Lock name) ≡ live_entry new.moment (entry_at old (key_text Lock name)))
+        → entry_at new (key_text Lock name) ≡ live_entry new.moment (entry_at old (key_text Lock name)))
         → MutexesStand new objects }
 {}

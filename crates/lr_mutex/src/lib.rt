@@ -7,10 +7,8 @@ mod call;
 mod functions;
 mod laws;
 mod posts;
-
 #[cfg(test)]
 mod tests;
 
 pub use call::run;
 pub use laws::{mutexes_stand_later, no_keys_stand_for_no_mutexes};
-

@@ -2,7 +2,6 @@
 #![tactic(auto)]
 
 mod channel;
-mod id;
 mod kind;
 mod name;
 mod owner;
@@ -12,7 +11,6 @@ mod post;
 mod tests;
 
 pub use channel::{Channel, ChannelFault};
-pub use id::read_id;
 pub use kind::{Kind, Wakes};
 pub use name::{Name, NameFault};
 pub use owner::{Owner, OwnerFault};

@@ -2,7 +2,7 @@ use Rattle.std.proofs.Common.{◌≡◌, Option, None, is_some, false, sym, subs
 use Rattle.lr_keys.specs.KeySpace.{KeyEntry, IsPrepared, entry_at}
 use Rattle.lr_keys.specs.declared.value_kind.ValueKind.TheVariants.{Hash}
 use Rattle.lr_hold.specs.Step.{hold_count}
-use Rattle.lr_hold.proofs.HoldLemmas.{full_step, busy_step, granted_step}
+use Rattle.lr_hold.proofs.HoldLemmas.{busy_step, granted_step}
 use Rattle.lr_hold.proofs.steps.take.Goals as goal
 use Rattle.lr_hold.proofs.steps.take.Goals.{else-count-eq0-via-then-count-eq0+else-exists, else-count-eq0-via-else-count-eq0}
 
@@ -26,7 +26,7 @@ returns-clause-step c = λ held at.
       | else-count-eq0-via-then-count-eq0+else-exists w ↦ none-from_absent (keys key) (sym w.exists.ensures ∙ w.if-exists.false)
       | else-count-eq0-via-else-count-eq0 w ↦ absurd (w.if-count-eq0.false (count ∙ none))
     ] in
-    granted_step c.args.keys.now c.add.new.keys key c.hold_count-count.ensures.early owner c.hold_count-count.ensures.owner _ c.brief.result held c.requires.lease c.brief.ensures.text at
+    granted_step c.args.keys.now c.add.new.keys key c.add.ensures.moment c.hold_count-count.ensures.early owner c.hold_count-count.ensures.owner _ c.brief.result held c.requires.lease c.brief.ensures.text at
     (omega (arith, count))
     free
     (λ absent. c.add.ensures.made (subst (λ text. IsPrepared c.args.keys.now key Hash text) (sym c.brief.ensures.text) (c.requires.memory absent)) absent)
