@@ -19,8 +19,8 @@ import sys
 import tempfile
 import time
 
-TOP = os.path.dirname(os.path.dirname(os.path.abspath(__file__)))
-PROGRAM = os.path.join(TOP, "crates", "lockd", "out", "lockd")
+from program import PROGRAM, must_be_built, processor_seconds
+
 NAMES = 1000
 ENTRIES = 1_000_000
 # Costs are measured over so many entries, from the first of these on and up to the last.
@@ -30,17 +30,6 @@ SPAN = 250_000
 
 def event(place):
     return b"force n%d\n" % (place % NAMES)
-
-
-def processor_seconds(path):
-    """What one run of a schedule takes."""
-    with open(path, "rb") as schedule:
-        run = subprocess.Popen([PROGRAM, "play"], stdin=schedule, stdout=subprocess.DEVNULL)
-        _, status, usage = os.wait4(run.pid, 0)
-    if status != 0:
-        sys.exit("lockd play ended with the wait status %d" % status)
-    run.returncode = 0
-    return usage.ru_utime + usage.ru_stime
 
 
 def shortest(folder, lengths, runs):
@@ -84,8 +73,7 @@ def main():
     parser = argparse.ArgumentParser(description="Times single steps of lockd play over a growing history.")
     parser.add_argument("--runs", type=int, default=9, help="runs of each schedule, of which the shortest counts")
     options = parser.parse_args()
-    if not os.access(PROGRAM, os.X_OK):
-        sys.exit("there is no %s: run ./lockd --version first" % PROGRAM)
+    must_be_built()
 
     lengths = [FIRST, FIRST + SPAN, ENTRIES - SPAN, ENTRIES]
     with tempfile.TemporaryDirectory() as folder:

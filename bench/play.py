@@ -19,8 +19,8 @@ import subprocess
 import sys
 import tempfile
 
-TOP = os.path.dirname(os.path.dirname(os.path.abspath(__file__)))
-PROGRAM = os.path.join(TOP, "crates", "lockd", "out", "lockd")
+from program import PROGRAM, must_be_built, processor_seconds
+
 LEASE = 86_400_000_000
 CLIENTS = 64
 THREADS = 256
@@ -95,18 +95,8 @@ def check(path, lines):
 
 
 def seconds(path, runs):
-    """Processor time of the program, which other programs disturb least: the shortest of several runs."""
-    best = None
-    for _ in range(runs):
-        with open(path, "rb") as schedule:
-            run = subprocess.Popen([PROGRAM, "play"], stdin=schedule, stdout=subprocess.DEVNULL)
-            _, status, usage = os.wait4(run.pid, 0)
-        if status != 0:
-            sys.exit("lockd play ended with the wait status %d" % status)
-        run.returncode = 0
-        took = usage.ru_utime + usage.ru_stime
-        best = took if best is None else min(best, took)
-    return best
+    """The shortest of several runs of a schedule."""
+    return min(processor_seconds(path) for _ in range(runs))
 
 
 def cost(folder, names, events, seed, runs):
@@ -137,8 +127,7 @@ def main():
         path, names = options.write[0], int(options.write[1])
         write_lines(path, taking(names) + using(names, options.events, options.seed))
         return
-    if not os.access(PROGRAM, os.X_OK):
-        sys.exit("there is no %s: run ./lockd --version first" % PROGRAM)
+    must_be_built()
 
     costs = []
     with tempfile.TemporaryDirectory() as folder:

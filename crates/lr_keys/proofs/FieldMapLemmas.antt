@@ -1,37 +1,51 @@
 use Rattle.std.proofs.Common.{◌≡◌, ◌≤◌, ◌<◌, ◌+◌, suc, length, arith, ℕ, Bool, true, false, cond, List, [], ◌∷◌, ℤ, Some, IsSome, refl, ap, true≢false, sym}
 use Rattle.std.specs.Str.{bytes_eq}
 use Rattle.std.specs.Map.{set_value}
-use Rattle.lr_keys.specs.FieldMap.{field_value, with_field, without_field}
+use Rattle.lr_keys.specs.FieldMap.{field_value, with_field, without_field, Pairs}
 
 -- a field that is there takes the number in its place
-pub with_field-there : (field : List ℕ) (number : ℤ) (pairs : List (List ℕ × ℤ)) → IsSome (field_value field pairs) → with_field field number pairs ≡ set_value (bytes_eq field) pairs number
+pub with_field-there : (field : List ℕ) (number : ℤ) (pairs : Pairs)
+    → IsSome (field_value field pairs)
+    → with_field field number pairs ≡ set_value (bytes_eq field) pairs number
 with_field-there field number [] there = absurd (true≢false (sym there))
-with_field-there field number (e ∷ es) there = by (bytes_eq field e.0) there (with_field-there field number es)
+with_field-there field number (e ∷ es) there =
+    by (bytes_eq field e.0) there (with_field-there field number es)
   where
-    by : (b : Bool) → IsSome (cond b (Some e.1) (field_value field es)) → (IsSome (field_value field es) → with_field field number es ≡ set_value (bytes_eq field) es number)
-        → cond b ((e.0, number) ∷ es) (e ∷ with_field field number es) ≡ cond b ((e.0, number) ∷ es) (e ∷ set_value (bytes_eq field) es number)
+    by : (b : Bool) → IsSome (cond b (Some e.1) (field_value field es))
+        → (IsSome (field_value field es)
+        → with_field field number es ≡ set_value (bytes_eq field) es number)
+        → cond b ((e.0, number) ∷ es) (e ∷ with_field field number es)
+        ≡ cond b ((e.0, number) ∷ es) (e ∷ set_value (bytes_eq field) es number)
     by true _ _ = refl
     by false found rest = ap (λ l. e ∷ l) (rest found)
 
 -- a field that is there leaves as many fields, and a new one makes one more at most
-pub length-with_field_there : (field : List ℕ) (number : ℤ) (pairs : List (List ℕ × ℤ)) → IsSome (field_value field pairs) → length (with_field field number pairs) ≡ length pairs
+pub length-with_field_there : (field : List ℕ) (number : ℤ) (pairs : Pairs)
+    → IsSome (field_value field pairs) → length (with_field field number pairs) ≡ length pairs
 length-with_field_there field number [] there = absurd (true≢false (sym there))
-length-with_field_there field number (e ∷ es) there = by (bytes_eq field e.0) there (length-with_field_there field number es)
+length-with_field_there field number (e ∷ es) there =
+    by (bytes_eq field e.0) there (length-with_field_there field number es)
   where
-    by : (b : Bool) → IsSome (cond b (Some e.1) (field_value field es)) → (IsSome (field_value field es) → length (with_field field number es) ≡ length es)
+    by : (b : Bool) → IsSome (cond b (Some e.1) (field_value field es))
+        → (IsSome (field_value field es) → length (with_field field number es) ≡ length es)
         → length (cond b ((e.0, number) ∷ es) (e ∷ with_field field number es)) ≡ suc (length es)
     by true _ _ = refl
     by false found rest = ap suc (rest found)
 
-pub length-with_field_le : (field : List ℕ) (number : ℤ) (pairs : List (List ℕ × ℤ)) → length (with_field field number pairs) ≤ length pairs + 1
+pub length-with_field_le : (field : List ℕ) (number : ℤ) (pairs : Pairs)
+    → length (with_field field number pairs) ≤ length pairs + 1
 length-with_field_le field number [] = omega arith
-length-with_field_le field number (e ∷ es) = by (bytes_eq field e.0) (length-with_field_le field number es)
+length-with_field_le field number (e ∷ es) =
+    by (bytes_eq field e.0) (length-with_field_le field number es)
   where
-    by : (b : Bool) → length (with_field field number es) ≤ length es + 1 → length (cond b ((e.0, number) ∷ es) (e ∷ with_field field number es)) ≤ suc (length es) + 1
+    by : (b : Bool) → length (with_field field number es) ≤ length es + 1
+        → length (cond b ((e.0, number) ∷ es) (e ∷ with_field field number es)) ≤ suc (length es)
+        + 1
     by true rest = omega arith
     by false rest = omega arith
 
-pub length-with_field_some : (field : List ℕ) (number : ℤ) (pairs : List (List ℕ × ℤ)) → 0 < length (with_field field number pairs)
+pub length-with_field_some : (field : List ℕ) (number : ℤ) (pairs : Pairs)
+    → 0 < length (with_field field number pairs)
 length-with_field_some field number [] = omega arith
 length-with_field_some field number (e ∷ es) = by (bytes_eq field e.0)
   where
@@ -40,10 +54,12 @@ length-with_field_some field number (e ∷ es) = by (bytes_eq field e.0)
     by false = omega arith
 
 -- a field less leaves no more fields
-pub length-without_field : (field : List ℕ) (pairs : List (List ℕ × ℤ)) → length (without_field field pairs) ≤ length pairs
+pub length-without_field : (field : List ℕ) (pairs : Pairs)
+    → length (without_field field pairs) ≤ length pairs
 length-without_field field [] = omega arith
 length-without_field field (e ∷ es) = by (bytes_eq field e.0) (length-without_field field es)
   where
-    by : (b : Bool) → length (without_field field es) ≤ length es → length (cond b es (e ∷ without_field field es)) ≤ suc (length es)
+    by : (b : Bool) → length (without_field field es) ≤ length es
+        → length (cond b es (e ∷ without_field field es)) ≤ suc (length es)
     by true rest = omega arith
     by false rest = omega arith

@@ -15,7 +15,9 @@ pub sum_of-down : (n : ℕ) → n < 2 ^ 63 → sum_of (pos (n + 1)) (negsuc 0) �
 sum_of-down n small = grind (arith, ints)
 
 -- a call uses up nothing that is prepared for other keys
-pub plans_after-other : (was_there : Bool) (key : List ℕ) (kind : ValueKind) (member : List ℕ) (plans : List ℕ → Option Plan) (q : List ℕ) → key ≢ q → plans_after was_there key kind member plans q ≡ plans q
+pub plans_after-other : (was_there : Bool) (key : List ℕ) (kind : ValueKind) (member : List ℕ)
+    (plans : List ℕ → Option Plan) (q : List ℕ) → key ≢ q
+    → plans_after was_there key kind member plans q ≡ plans q
 plans_after-other true key kind member plans q apart = refl
 plans_after-other false key kind member plans q apart = by (is_plan_for kind member (plans key))
   where
@@ -24,8 +26,12 @@ plans_after-other false key kind member plans q apart = by (is_plan_for kind mem
     by false = refl
 
 -- what was prepared for the key and the member is prepared
-pub IsPrepared-with_key : (before after : Keys) (key : List ℕ) (kind : ValueKind) (member : List ℕ) → plan_at after ≡ with_key key (Some (record { kind = kind; member = member })) (plan_at before) → IsPrepared after key kind member
-IsPrepared-with_key before after key kind member prepared = ap (λ (f : List ℕ → Option Plan). f key) prepared ∙ with_key-same key (Some (record { kind = kind; member = member })) (plan_at before)
+pub IsPrepared-with_key : (before after : Keys) (key : List ℕ) (kind : ValueKind) (member : List ℕ)
+    → plan_at after ≡ with_key key (Some (record { kind = kind; member = member })) (plan_at before)
+    → IsPrepared after key kind member
+IsPrepared-with_key before after key kind member prepared =
+    ap (λ (f : List ℕ → Option Plan). f key) prepared
+    ∙ with_key-same key (Some (record { kind = kind; member = member })) (plan_at before)
 
 -- a hash of one field
 module _ (field : List ℕ) (n m : ℤ) where
@@ -33,10 +39,13 @@ module _ (field : List ℕ) (n m : ℤ) where
   field_value-one = ap (λ (b : Bool). if b then Some n else None) (bytes_eq-same field)
 
   pub with_field-one : with_field field m ((field, n) ∷ []) ≡ (field, m) ∷ []
-  with_field-one = ap (λ (b : Bool). if b then (field, m) ∷ [] else (field, n) ∷ (field, m) ∷ []) (bytes_eq-same field)
+  with_field-one = ap (λ (b : Bool). if b then (field, m) ∷ [] else (field, n) ∷ (field, m) ∷ [])
+      (bytes_eq-same field)
 
   pub without_field-one : without_field field ((field, n) ∷ []) ≡ []
   without_field-one = ap (λ (b : Bool). if b then [] else (field, n) ∷ []) (bytes_eq-same field)
 
-  pub field_value-one_other : (other : List ℕ) → other ≢ field → field_value other ((field, n) ∷ []) ≡ None
-  field_value-one_other other apart = ap (λ (b : Bool). if b then Some n else None) (bytes_eq-other other field apart)
+  pub field_value-one_other : (other : List ℕ) → other ≢ field
+      → field_value other ((field, n) ∷ []) ≡ None
+  field_value-one_other other apart =
+      ap (λ (b : Bool). if b then Some n else None) (bytes_eq-other other field apart)

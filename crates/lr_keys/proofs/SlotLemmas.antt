@@ -12,41 +12,52 @@ use Rattle.lr_keys.specs.declared.value_kind.ValueKind.{ValueKind}
 use Rattle.lr_keys.specs.declared.value_kind.ValueKind.TheVariants.{Hash as HashKind, List as ListKind, Zset, Counter as CounterKind}
 use Rattle.lr_keys.specs.declared.fault.KeyFault.{KeyFault}
 use Rattle.lr_keys.specs.declared.fault.KeyFault.TheVariants.{TooMany}
-use Rattle.lr_keys.specs.Table.{with_key}
+use Rattle.lr_keys.specs.Table.{with_key, WritesKey, without_key_if}
 use Rattle.lr_keys.proofs.TableLaws.{at_each-with_key, with_key-same}
 use Rattle.lr_keys.specs.declared.slot.Slot.{Slot}
 use Rattle.lr_keys.specs.declared.slot.Spare.{Spare}
 use Rattle.lr_keys.specs.declared.slot.Stored.{Stored}
-use Rattle.lr_keys.specs.FieldMap.{field_value, with_field, without_field}
+use Rattle.lr_keys.specs.FieldMap.{field_value, with_field, without_field, Pairs}
 use Rattle.lr_keys.proofs.FieldMapLemmas.{length-without_field, length-with_field_some, length-with_field_there, length-with_field_le}
 use Rattle.lr_keys.specs.declared.key_space.KeySpace.TheInside.{Inside}
 
 -- a look-up among values that are shown by f
-pub lookup-map : {X Y : Type 0} (f : X → Y) (test : List ℕ → Bool) (es : List (List ℕ × X)) → lookup {X = Y} test (map {B = List ℕ × Y} (λ (e : List ℕ × X). (e.0, f e.1)) es) ≡ option_map f (lookup test es)
+pub lookup-map : {X Y : Type 0} (f : X → Y) (test : List ℕ → Bool) (es : List (List ℕ × X))
+    → lookup {X = Y} test (map {B = List ℕ × Y} (λ (e : List ℕ × X). (e.0, f e.1)) es)
+    ≡ option_map f (lookup test es)
 lookup-map f test [] = refl
 lookup-map {X} {Y} f test (e ∷ es) = by (test e.0) (lookup-map f test es)
   where
-    by : (b : Bool) {o : Option Y} → o ≡ option_map f (lookup test es) → cond b (Some (f e.1)) o ≡ option_map f (cond b (Some e.1) (lookup test es))
+    by : (b : Bool) {o : Option Y} → o ≡ option_map f (lookup test es)
+        → cond b (Some (f e.1)) o ≡ option_map f (cond b (Some e.1) (lookup test es))
     by true h = refl
     by false h = h
 
-pub entry_at-keys_inside : (s : Inside) (key : List ℕ) → entry_at (keys_inside s) key ≡ option_map key_entry_of (get bytes_eq s.slots key)
+pub entry_at-keys_inside : (s : Inside) (key : List ℕ)
+    → entry_at (keys_inside s) key ≡ option_map key_entry_of (get bytes_eq s.slots key)
 unfolding entry_at
 entry_at-keys_inside s key = lookup-map key_entry_of (bytes_eq key) s.slots.entries
 
-pub plan_at-keys_inside : (s : Inside) (key : List ℕ) → plan_at (keys_inside s) key ≡ option_map plan_of (get bytes_eq s.spares key)
+pub plan_at-keys_inside : (s : Inside) (key : List ℕ)
+    → plan_at (keys_inside s) key ≡ option_map plan_of (get bytes_eq s.spares key)
 unfolding plan_at
 plan_at-keys_inside s key = lookup-map plan_of (bytes_eq key) s.spares.entries
 
 -- what is read of the slots, for the keys that are shown
-pub entry_at-read : (s : Inside) (keys : Keys) (key : List ℕ) (o : Option Slot) → keys_inside s ≡ keys → o ≡ get bytes_eq s.slots key → entry_at keys key ≡ option_map key_entry_of o
-entry_at-read s keys key o view read = ap (λ k. entry_at k key) (sym view) ∙ entry_at-keys_inside s key ∙ ap (option_map key_entry_of) (sym read)
+pub entry_at-read : (s : Inside) (keys : Keys) (key : List ℕ) (o : Option Slot)
+    → keys_inside s ≡ keys → o ≡ get bytes_eq s.slots key
+    → entry_at keys key ≡ option_map key_entry_of o
+entry_at-read s keys key o view read = ap (λ k. entry_at k key) (sym view)
+    ∙ entry_at-keys_inside s key ∙ ap (option_map key_entry_of) (sym read)
 
-pub plan_at-read : (s : Inside) (keys : Keys) (key : List ℕ) (o : Option Spare) → keys_inside s ≡ keys → o ≡ get bytes_eq s.spares key → plan_at keys key ≡ option_map plan_of o
-plan_at-read s keys key o view read = ap (λ k. plan_at k key) (sym view) ∙ plan_at-keys_inside s key ∙ ap (option_map plan_of) (sym read)
+pub plan_at-read : (s : Inside) (keys : Keys) (key : List ℕ) (o : Option Spare)
+    → keys_inside s ≡ keys → o ≡ get bytes_eq s.spares key → plan_at keys key ≡ option_map plan_of o
+plan_at-read s keys key o view read = ap (λ k. plan_at k key) (sym view) ∙ plan_at-keys_inside s key
+    ∙ ap (option_map plan_of) (sym read)
 
 -- what a mapped option holds came from a value
-pub option_map-some : {X Y : Type 0} (f : X → Y) (o : Option X) (y : Y) → option_map f o ≡ Some y → (x : X) × (o ≡ Some x) × (f x ≡ y)
+pub option_map-some : {X Y : Type 0} (f : X → Y) (o : Option X) (y : Y) → option_map f o ≡ Some y
+    → (x : X) × (o ≡ Some x) × (f x ≡ y)
 option_map-some f None y h = absurd (cc h)
 option_map-some f (Some x) y h = (x, refl, cc h)
 
@@ -55,72 +66,110 @@ pub AreLive-keys_inside : (s : Inside) → IsKeySpace s → AreLive (keys_inside
 AreLive-keys_inside s kept = record {
   moment = kept.moment;
   live = λ key e at.
-      let found = option_map-some key_entry_of (get bytes_eq s.slots key) e (sym (entry_at-keys_inside s key) ∙ at) in
+      let found = option_map-some key_entry_of (get bytes_eq s.slots key) e
+      (sym (entry_at-keys_inside s key) ∙ at) in
       subst (IsLive s.moment) found.2 (kept.slots key found.0 found.1).live;
 }
 
 -- where no key is kept, none is shown
 pub entry_at-empty : (s : Inside) → s.slots.entries ≡ [] → entry_at (keys_inside s) ≡ (λ _. None)
-entry_at-empty s empty = λ i key. (entry_at-keys_inside s key ∙ ap (λ es. option_map key_entry_of (lookup (bytes_eq key) es)) empty) i
+entry_at-empty s empty =
+    λ i key. (entry_at-keys_inside s key
+    ∙ ap (λ es. option_map key_entry_of (lookup (bytes_eq key) es)) empty) i
 
 pub plan_at-empty : (s : Inside) → s.spares.entries ≡ [] → plan_at (keys_inside s) ≡ (λ _. None)
-plan_at-empty s empty = λ i key. (plan_at-keys_inside s key ∙ ap (λ es. option_map plan_of (lookup (bytes_eq key) es)) empty) i
+plan_at-empty s empty = λ i key.
+    (plan_at-keys_inside s key ∙ ap (λ es. option_map plan_of (lookup (bytes_eq key) es)) empty) i
 
 module _ (s t : Inside) where
   -- a change of the slots at one key, as a change of what is shown
-  pub entry_at-set : (keys : Keys) (key : List ℕ) (w : Option Slot) → keys_inside s ≡ keys → ((q : List ℕ) → get bytes_eq t.slots q ≡ with_key key w (get bytes_eq s.slots) q) → entry_at (keys_inside t) ≡ with_key key (option_map key_entry_of w) (entry_at keys)
-  entry_at-set keys key w view sets = λ i q. (entry_at-keys_inside t q ∙ ap (option_map key_entry_of) (sets q) ∙ by q (bytes_eq key q) ∙ ap (λ k. with_key key (option_map key_entry_of w) (entry_at k) q) view) i
+  pub entry_at-set : (keys : Keys) (key : List ℕ) (w : Option Slot) → keys_inside s ≡ keys
+      → WritesKey (get bytes_eq s.slots) (get bytes_eq t.slots) key w
+      → entry_at (keys_inside t) ≡ with_key key (option_map key_entry_of w) (entry_at keys)
+  entry_at-set keys key w view sets =
+      λ i q. (entry_at-keys_inside t q ∙ ap (option_map key_entry_of) (sets q)
+      ∙ by q (bytes_eq key q) ∙ ap
+      (λ k. with_key key (option_map key_entry_of w) (entry_at k) q) view) i
     where
-      by : (q : List ℕ) (b : Bool) → option_map key_entry_of (cond b w (get bytes_eq s.slots q)) ≡ cond b (option_map key_entry_of w) (entry_at (keys_inside s) q)
+      by : (q : List ℕ) (b : Bool)
+          → option_map key_entry_of (cond b w (get bytes_eq s.slots q))
+          ≡ cond b (option_map key_entry_of w) (entry_at (keys_inside s) q)
       by q true = refl
       by q false = sym (entry_at-keys_inside s q)
 
-  pub plan_at-set : (keys : Keys) (key : List ℕ) (w : Option Spare) → keys_inside s ≡ keys → ((q : List ℕ) → get bytes_eq t.spares q ≡ with_key key w (get bytes_eq s.spares) q) → plan_at (keys_inside t) ≡ with_key key (option_map plan_of w) (plan_at keys)
-  plan_at-set keys key w view sets = λ i q. (plan_at-keys_inside t q ∙ ap (option_map plan_of) (sets q) ∙ by q (bytes_eq key q) ∙ ap (λ k. with_key key (option_map plan_of w) (plan_at k) q) view) i
+  pub plan_at-set : (keys : Keys) (key : List ℕ) (w : Option Spare) → keys_inside s ≡ keys
+      → WritesKey (get bytes_eq s.spares) (get bytes_eq t.spares) key w
+      → plan_at (keys_inside t) ≡ with_key key (option_map plan_of w) (plan_at keys)
+  plan_at-set keys key w view sets =
+      λ i q. (plan_at-keys_inside t q ∙ ap (option_map plan_of) (sets q) ∙ by q (bytes_eq key q)
+      ∙ ap (λ k. with_key key (option_map plan_of w) (plan_at k) q) view) i
     where
-      by : (q : List ℕ) (b : Bool) → option_map plan_of (cond b w (get bytes_eq s.spares q)) ≡ cond b (option_map plan_of w) (plan_at (keys_inside s) q)
+      by : (q : List ℕ) (b : Bool)
+          → option_map plan_of (cond b w (get bytes_eq s.spares q))
+          ≡ cond b (option_map plan_of w) (plan_at (keys_inside s) q)
       by q true = refl
       by q false = sym (plan_at-keys_inside s q)
 
   -- where the spares stay, what is prepared stays
-  pub plan_at-same : (keys : Keys) → keys_inside s ≡ keys → t.spares.entries ≡ s.spares.entries → plan_at (keys_inside t) ≡ plan_at keys
-  plan_at-same keys view same = λ i q. (plan_at-keys_inside t q ∙ ap (λ es. option_map plan_of (lookup (bytes_eq q) es)) same ∙ sym (plan_at-keys_inside s q) ∙ ap (λ k. plan_at k q) view) i
+  pub plan_at-same : (keys : Keys) → keys_inside s ≡ keys → t.spares.entries ≡ s.spares.entries
+      → plan_at (keys_inside t) ≡ plan_at keys
+  plan_at-same keys view same =
+      λ i q. (plan_at-keys_inside t q ∙ ap (λ es. option_map plan_of (lookup (bytes_eq q) es)) same
+      ∙ sym (plan_at-keys_inside s q) ∙ ap (λ k. plan_at k q) view) i
 
   -- what is kept stays so after a change of the slots at one key
-  pub IsKeySpace-set : (key : List ℕ) (w : Option Slot) → IsKeySpace s → t.moment ≡ s.moment → t.least_expiry ≤ s.least_expiry → t.spares ≡ s.spares
-      → ((q : List ℕ) → get bytes_eq t.slots q ≡ with_key key w (get bytes_eq s.slots) q) → spare s.slots ≤ spare t.slots
-      → ForSome w (IsLiveSlot t.moment t.least_expiry) → ((kind : ValueKind) → IsRoomFor (get bytes_eq s.slots key) kind → IsRoomFor w kind) → IsKeySpace t
+  pub IsKeySpace-set : (key : List ℕ) (w : Option Slot) → IsKeySpace s → t.moment ≡ s.moment
+      → t.least_expiry ≤ s.least_expiry → t.spares ≡ s.spares
+      → WritesKey (get bytes_eq s.slots) (get bytes_eq t.slots) key w
+      → spare s.slots ≤ spare t.slots
+      → ForSome w (IsLiveSlot t.moment t.least_expiry)
+      → ((kind : ValueKind) → IsRoomFor (get bytes_eq s.slots key) kind → IsRoomFor w kind)
+      → IsKeySpace t
   IsKeySpace-set key w kept moment least spares sets room sound room_for = record {
     moment = subst (λ m. m ≤ last_moment) (sym moment) kept.moment;
-    slots = at_each-with_key (λ q o. ForSome o (IsLiveSlot t.moment t.least_expiry)) (get bytes_eq s.slots) (get bytes_eq t.slots) key w sets sound (λ q slot at. record {
-      live = subst (λ (m : ℕ). IsLive m (key_entry_of slot)) (sym moment) (kept.slots q slot at).live;
-      bound = λ expiry e. le_trans least ((kept.slots q slot at).bound expiry e);
-    });
-    room = subst (λ (m : IndexMap (List ℕ) Spare _). index_map_len m ≤ spare t.slots) (sym spares) (le_trans kept.room room);
-    ready = subst (λ (m : IndexMap (List ℕ) Spare _). (q : List ℕ) → ForSome (get bytes_eq m q) (IsReadySpare (get bytes_eq t.slots q))) (sym spares)
-        (at_each-with_key (λ q o. ForSome (get bytes_eq s.spares q) (IsReadySpare o)) (get bytes_eq s.slots) (get bytes_eq t.slots) key w sets
-        (λ p at. let r = kept.ready key p at in record { empty = r.empty; spare = r.spare; room = room_for p.kind r.room })
+    slots = at_each-with_key (λ q o. ForSome o (IsLiveSlot t.moment t.least_expiry))
+        (get bytes_eq s.slots) (get bytes_eq t.slots) key w sets sound (λ q slot at. record {
+          live = subst (λ (m : ℕ). IsLive m (key_entry_of slot)) (sym moment)
+              (kept.slots q slot at).live;
+          bound = λ expiry e. le_trans least ((kept.slots q slot at).bound expiry e);
+        });
+    room = subst (λ (m : IndexMap (List ℕ) Spare _). index_map_len m ≤ spare t.slots) (sym spares)
+        (le_trans kept.room room);
+    ready = subst (λ (m : IndexMap (List ℕ) Spare _). (q : List ℕ)
+        → ForSome (get bytes_eq m q) (IsReadySpare (get bytes_eq t.slots q))) (sym spares)
+        (at_each-with_key (λ q o. ForSome (get bytes_eq s.spares q) (IsReadySpare o))
+        (get bytes_eq s.slots) (get bytes_eq t.slots) key w sets
+        (λ p at. let r = kept.ready key p at in
+        record { empty = r.empty; spare = r.spare; room = room_for p.kind r.room })
         kept.ready);
   }
 
 -- a key is shown exactly where a slot is
-pub is_some-entry_at : (keys : Keys) (key : List ℕ) (o : Option Slot) → entry_at keys key ≡ option_map key_entry_of o → is_some o ≡ is_some (entry_at keys key)
+pub is_some-entry_at : (keys : Keys) (key : List ℕ) (o : Option Slot)
+    → entry_at keys key ≡ option_map key_entry_of o → is_some o ≡ is_some (entry_at keys key)
 is_some-entry_at keys key None e = sym (ap is_some e)
 is_some-entry_at keys key (Some slot) e = sym (ap is_some e)
 
 -- what was written through `get_mut` stands at the key
-pub sets_written : {X S : Type 0} (m n : IndexMap (List ℕ) X S) (key : List ℕ) (u w : X) → Some u ≡ get bytes_eq m key → WritesThrough bytes_eq (bytes_eq key) m w n → (q : List ℕ) → get bytes_eq n q ≡ with_key key (Some w) (get bytes_eq m) q
+pub sets_written : {X S : Type 0} (m n : IndexMap (List ℕ) X S) (key : List ℕ) (u w : X)
+    → Some u ≡ get bytes_eq m key → WritesThrough bytes_eq (bytes_eq key) m w n → (q : List ℕ)
+    → get bytes_eq n q ≡ with_key key (Some w) (get bytes_eq m) q
 sets_written m n key u w found writes = (writes.3 (sym (ap is_some found))).0
 
 -- room in a slot stays room where its hash keeps room
-pub IsRoomFor-some : (o : Option Slot) (u w : Slot) → Some u ≡ o → (HasRoom u.value → HasRoom w.value) → (kind : ValueKind) → IsRoomFor o kind → IsRoomFor (Some w) kind
-IsRoomFor-some o u w found keeps HashKind room = keeps (subst (λ o. IsRoomFor o HashKind) (sym found) room)
+pub IsRoomFor-some : (o : Option Slot) (u w : Slot) → Some u ≡ o
+    → (HasRoom u.value → HasRoom w.value) → (kind : ValueKind) → IsRoomFor o kind
+    → IsRoomFor (Some w) kind
+IsRoomFor-some o u w found keeps HashKind room =
+    keeps (subst (λ o. IsRoomFor o HashKind) (sym found) room)
 IsRoomFor-some o u w found keeps ListKind room = tt
 IsRoomFor-some o u w found keeps Zset room = tt
 IsRoomFor-some o u w found keeps CounterKind room = tt
 
 -- a slot with an expiry ahead
-pub IsLiveSlot-expiring : (moment least next expiry : ℕ) (slot : Slot) → IsLiveSlot moment least slot → moment < expiry → expiry ≤ last_moment + longest_lease → next ≤ expiry → IsLiveSlot moment next (record slot { expiry = Some expiry })
+pub IsLiveSlot-expiring : (moment least next expiry : ℕ) (slot : Slot)
+    → IsLiveSlot moment least slot → moment < expiry → expiry ≤ last_moment + longest_lease
+    → next ≤ expiry → IsLiveSlot moment next (record slot { expiry = Some expiry })
 IsLiveSlot-expiring moment least next expiry slot sound ahead near bound = record {
   live = record {
     ahead = λ e at. let same : expiry ≡ e = cc in omega arith;
@@ -137,35 +186,54 @@ ForSome-some P w h = λ x at. subst P (cc at) h
 
 module _ (s t : Inside) (old : Keys) (key : List ℕ) (o w : Option Slot) where
   -- a change of one slot, as a change of what is shown at the key
-  pub entry_at-changed : (change : Option KeyEntry → Option KeyEntry) → keys_inside s ≡ old → o ≡ get bytes_eq s.slots key → ((q : List ℕ) → get bytes_eq t.slots q ≡ with_key key w (get bytes_eq s.slots) q) → option_map key_entry_of w ≡ change (option_map key_entry_of o)
+  pub entry_at-changed : (change : Option KeyEntry → Option KeyEntry) → keys_inside s ≡ old
+      → o ≡ get bytes_eq s.slots key → WritesKey (get bytes_eq s.slots) (get bytes_eq t.slots) key w
+      → option_map key_entry_of w ≡ change (option_map key_entry_of o)
       → entry_at (keys_inside t) ≡ with_key key (change (entry_at old key)) (entry_at old)
   entry_at-changed change view found sets changed =
-      entry_at-set s t old key w view sets ∙ ap (λ e. with_key key e (entry_at old)) (changed ∙ ap change (sym (entry_at-read s old key o view found)))
+      entry_at-set s t old key w view sets
+      ∙ ap (λ e. with_key key e (entry_at old))
+      (changed ∙ ap change (sym (entry_at-read s old key o view found)))
 
 module _ (s t : Inside) (key : List ℕ) (w : Slot) (spent : Bool) where
   -- what is kept stays so once a key has a new member, and what was prepared for that is spent
   pub IsKeySpace-grown : IsKeySpace s → t.moment ≡ s.moment → t.least_expiry ≡ s.least_expiry
-      → ((q : List ℕ) → get bytes_eq t.slots q ≡ with_key key (Some w) (get bytes_eq s.slots) q)
-      → ((q : List ℕ) → get bytes_eq t.spares q ≡ (if spent then with_key key None (get bytes_eq s.spares) else get bytes_eq s.spares) q)
+      → WritesKey (get bytes_eq s.slots) (get bytes_eq t.slots) key (Some w)
+      → ((q : List ℕ) → get bytes_eq t.spares q
+      ≡ without_key_if spent key (get bytes_eq s.spares) q)
       → index_map_len t.spares ≤ spare t.slots → IsLiveSlot t.moment t.least_expiry w
-      → (spent ≡ false → (kind : ValueKind) → IsRoomFor (get bytes_eq s.slots key) kind → IsRoomFor (Some w) kind) → IsKeySpace t
+      → (spent ≡ false → (kind : ValueKind) → IsRoomFor (get bytes_eq s.slots key) kind
+      → IsRoomFor (Some w) kind) → IsKeySpace t
   IsKeySpace-grown kept moment least sets spends room sound room_for = record {
     moment = subst (λ m. m ≤ last_moment) (sym moment) kept.moment;
-    slots = at_each-with_key (λ q o. ForSome o (IsLiveSlot t.moment t.least_expiry)) (get bytes_eq s.slots) (get bytes_eq t.slots) key (Some w) sets
+    slots = at_each-with_key (λ q o. ForSome o (IsLiveSlot t.moment t.least_expiry))
+        (get bytes_eq s.slots) (get bytes_eq t.slots) key (Some w) sets
         (λ x at. subst (IsLiveSlot t.moment t.least_expiry) (cc at) sound)
-        (λ q slot at. subst (λ (m : ℕ). IsLiveSlot m t.least_expiry slot) (sym moment) (subst (λ (m : ℕ). IsLiveSlot s.moment m slot) (sym least) (kept.slots q slot at)));
+        (λ q slot at. subst (λ (m : ℕ). IsLiveSlot m t.least_expiry slot) (sym moment)
+        (subst (λ (m : ℕ). IsLiveSlot s.moment m slot) (sym least) (kept.slots q slot at)));
     room = room;
-    ready = at_each-with_key (λ q o. ForSome (get bytes_eq t.spares q) (IsReadySpare o)) (get bytes_eq s.slots) (get bytes_eq t.slots) key (Some w) sets (here spent spends room_for) (there spent spends);
+    ready = at_each-with_key (λ q o. ForSome (get bytes_eq t.spares q) (IsReadySpare o))
+        (get bytes_eq s.slots) (get bytes_eq t.slots) key (Some w) sets (here spent spends room_for)
+        (there spent spends);
   }
     where
-      there : (b : Bool) → ((q : List ℕ) → get bytes_eq t.spares q ≡ (if b then with_key key None (get bytes_eq s.spares) else get bytes_eq s.spares) q) → (q : List ℕ) → ForSome (get bytes_eq t.spares q) (IsReadySpare (get bytes_eq s.slots q))
-      there true spends = at_each-with_key (λ q o. ForSome o (IsReadySpare (get bytes_eq s.slots q))) (get bytes_eq s.spares) (get bytes_eq t.spares) key None spends (λ p at. absurd (cc at)) kept.ready
+      there : (b : Bool) → ((q : List ℕ)
+          → get bytes_eq t.spares q ≡ without_key_if b key (get bytes_eq s.spares) q) → (q : List ℕ)
+          → ForSome (get bytes_eq t.spares q) (IsReadySpare (get bytes_eq s.slots q))
+      there true spends = at_each-with_key
+          (λ q o. ForSome o (IsReadySpare (get bytes_eq s.slots q))) (get bytes_eq s.spares)
+          (get bytes_eq t.spares) key None spends (λ p at. absurd (cc at)) kept.ready
       there false spends = λ q p at. kept.ready q p (sym (spends q) ∙ at)
 
-      here : (b : Bool) → ((q : List ℕ) → get bytes_eq t.spares q ≡ (if b then with_key key None (get bytes_eq s.spares) else get bytes_eq s.spares) q)
-          → (b ≡ false → (kind : ValueKind) → IsRoomFor (get bytes_eq s.slots key) kind → IsRoomFor (Some w) kind) → ForSome (get bytes_eq t.spares key) (IsReadySpare (Some w))
-      here true spends room_for = λ p at. let gone = with_key-same key None (get bytes_eq s.spares) in let e = spends key in absurd (cc (gone, e, at))
-      here false spends room_for = λ p at. let r = kept.ready key p (sym (spends key) ∙ at) in record { empty = r.empty; spare = r.spare; room = room_for refl p.kind r.room }
+      here : (b : Bool) → ((q : List ℕ)
+          → get bytes_eq t.spares q ≡ without_key_if b key (get bytes_eq s.spares) q)
+          → (b ≡ false → (kind : ValueKind) → IsRoomFor (get bytes_eq s.slots key) kind
+          → IsRoomFor (Some w) kind) → ForSome (get bytes_eq t.spares key) (IsReadySpare (Some w))
+      here true spends room_for = λ p at. let gone =
+          with_key-same key None (get bytes_eq s.spares) in let e = spends key in
+          absurd (cc (gone, e, at))
+      here false spends room_for = λ p at. let r = kept.ready key p (sym (spends key) ∙ at) in
+          record { empty = r.empty; spare = r.spare; room = room_for refl p.kind r.room }
 
 -- a slot whose value has room has it for any member
 pub IsRoomFor-any : (w : Slot) → HasRoom w.value → (kind : ValueKind) → IsRoomFor (Some w) kind
@@ -175,74 +243,112 @@ IsRoomFor-any w room Zset = tt
 IsRoomFor-any w room CounterKind = tt
 
 -- a value with a field more is one that a key may hold
-some_with_field : (field : List ℕ) (number : ℤ) (value : Content) (pairs : List (List ℕ × ℤ)) → content_with_field field number value ≡ Fields pairs → 0 < length pairs
-some_with_field field number (Fields before) pairs e = let same : with_field field number before ≡ pairs = cc e in subst (λ (ps : List (List ℕ × ℤ)). 0 < length ps) same (length-with_field_some field number before)
+some_with_field : (field : List ℕ) (number : ℤ) (value : Content) (pairs : Pairs)
+    → content_with_field field number value ≡ Fields pairs → 0 < length pairs
+some_with_field field number (Fields before) pairs e =
+    let same : with_field field number before ≡ pairs = cc e in
+    subst (λ (ps : Pairs). 0 < length ps) same (length-with_field_some field number before)
 some_with_field field number (Number n) pairs e = absurd (cc e)
 
-few_with_field : (field : List ℕ) (number : ℤ) (value : Content) (pairs : List (List ℕ × ℤ)) → ((before : List (List ℕ × ℤ)) → value ≡ Fields before → length (with_field field number before) ≤ member_limit) → content_with_field field number value ≡ Fields pairs → length pairs ≤ member_limit
-few_with_field field number (Fields before) pairs few e = let same : with_field field number before ≡ pairs = cc e in subst (λ (ps : List (List ℕ × ℤ)). length ps ≤ member_limit) same (few before refl)
+few_with_field : (field : List ℕ) (number : ℤ) (value : Content) (pairs : Pairs)
+    → ((before : Pairs) → value ≡ Fields before
+    → length (with_field field number before) ≤ member_limit)
+    → content_with_field field number value ≡ Fields pairs → length pairs ≤ member_limit
+few_with_field field number (Fields before) pairs few e =
+    let same : with_field field number before ≡ pairs = cc e in
+    subst (λ (ps : Pairs). length ps ≤ member_limit) same (few before refl)
 few_with_field field number (Number n) pairs few e = absurd (cc e)
 
-pub IsLiveSlot-with_field : (moment least : ℕ) (u : Slot) (x : Stored) (field : List ℕ) (number : ℤ) → IsLiveSlot moment least u → content_of x ≡ content_with_field field number (content_of u.value)
-    → ((before : List (List ℕ × ℤ)) → content_of u.value ≡ Fields before → length (with_field field number before) ≤ member_limit) → IsLiveSlot moment least (record u { value = x })
+pub IsLiveSlot-with_field : (moment least : ℕ) (u : Slot) (x : Stored) (field : List ℕ) (number : ℤ)
+    → IsLiveSlot moment least u
+    → content_of x ≡ content_with_field field number (content_of u.value)
+    → ((before : Pairs) → content_of u.value ≡ Fields before
+    → length (with_field field number before) ≤ member_limit)
+    → IsLiveSlot moment least (record u { value = x })
 IsLiveSlot-with_field moment least u x field number sound same few = record {
   live = record {
     ahead = sound.live.ahead;
     near = sound.live.near;
     some_fields = λ pairs e. some_with_field field number (content_of u.value) pairs (sym same ∙ e);
-    few_fields = λ pairs e. few_with_field field number (content_of u.value) pairs few (sym same ∙ e);
+    few_fields = λ pairs e. few_with_field field number (content_of u.value) pairs few
+        (sym same ∙ e);
   };
   bound = sound.bound;
 }
 
 -- what `get_mut` lends is what the table has
-pub IsSome-lent : {X : Type 0} (r : Option (MutBor X)) (o : Option X) → option_copied_mut r ≡ o → IsSome o → IsSome r
+pub IsSome-lent : {X : Type 0} (r : Option (MutBor X)) (o : Option X) → option_copied_mut r ≡ o
+    → IsSome o → IsSome r
 IsSome-lent None o e there = absurd (true≢false (sym there ∙ sym (ap is_some e)))
 IsSome-lent (Some x) o e there = refl
 
 -- a slot is there where what is shown has the field
-pub IsSome-slot : (keys : Keys) (key field : List ℕ) (o : Option Slot) → entry_at keys key ≡ option_map key_entry_of o → IsTrue (is_there (field_at field (entry_at keys key))) → IsSome o
-IsSome-slot keys key field None e there = absurd (true≢false (sym there ∙ ap (λ x. is_there (field_at field x)) e))
+pub IsSome-slot : (keys : Keys) (key field : List ℕ) (o : Option Slot)
+    → entry_at keys key ≡ option_map key_entry_of o
+    → IsTrue (is_there (field_at field (entry_at keys key))) → IsSome o
+IsSome-slot keys key field None e there =
+    absurd (true≢false (sym there ∙ ap (λ x. is_there (field_at field x)) e))
 IsSome-slot keys key field (Some slot) e there = refl
 
 -- a field that is there leaves few enough fields
-pub few_there : (moment : ℕ) (u : Slot) (field : List ℕ) (number : ℤ) → IsLive moment (key_entry_of u) → IsTrue (is_there (field_of field (hash_in (content_of u.value))))
-    → (before : List (List ℕ × ℤ)) → content_of u.value ≡ Fields before → length (with_field field number before) ≤ member_limit
+pub few_there : (moment : ℕ) (u : Slot) (field : List ℕ) (number : ℤ)
+    → IsLive moment (key_entry_of u)
+    → IsTrue (is_there (field_of field (hash_in (content_of u.value))))
+    → (before : Pairs) → content_of u.value ≡ Fields before
+    → length (with_field field number before) ≤ member_limit
 few_there moment u field number live there before e =
-    let found : IsSome (field_value field before) = subst (λ (v : Content). IsTrue (is_there (field_of field (hash_in v)))) e there in
+    let found : IsSome (field_value field before) =
+    subst (λ (v : Content). IsTrue (is_there (field_of field (hash_in v)))) e there in
     omega (arith, length-with_field_there field number before found, live.few_fields before e)
 
 -- one field more, where there are fewer than a key may have
-pub few_more : (u : Slot) (field : List ℕ) (number : ℤ) → ((pairs : List (List ℕ × ℤ)) → hash_in (content_of u.value) ≡ Ok pairs → length pairs < member_limit)
-    → (before : List (List ℕ × ℤ)) → content_of u.value ≡ Fields before → length (with_field field number before) ≤ member_limit
-few_more u field number few before e = omega (arith, length-with_field_le field number before, few before (ap hash_in e))
+pub few_more : (u : Slot) (field : List ℕ) (number : ℤ)
+    → ((pairs : Pairs) → hash_in (content_of u.value) ≡ Ok pairs → length pairs < member_limit)
+    → (before : Pairs) → content_of u.value ≡ Fields before
+    → length (with_field field number before) ≤ member_limit
+few_more u field number few before e =
+    omega (arith, length-with_field_le field number before, few before (ap hash_in e))
 
 -- what is prepared, once the memory for a member is spent or not
 pub plan_at-spent : (s t : Inside) (old : Keys) (key : List ℕ) (spent : Bool) → keys_inside s ≡ old
-    → ((q : List ℕ) → get bytes_eq t.spares q ≡ (if spent then with_key key None (get bytes_eq s.spares) else get bytes_eq s.spares) q)
-    → plan_at (keys_inside t) ≡ (if spent then with_key key None (plan_at old) else plan_at old)
+    → ((q : List ℕ) → get bytes_eq t.spares q ≡ without_key_if spent key (get bytes_eq s.spares) q)
+    → plan_at (keys_inside t) ≡ without_key_if spent key (plan_at old)
 plan_at-spent s t old key true view spends = plan_at-set s t old key None view spends
-plan_at-spent s t old key false view spends = λ i q. (plan_at-keys_inside t q ∙ ap (option_map plan_of) (spends q) ∙ sym (plan_at-keys_inside s q) ∙ ap (λ k. plan_at k q) view) i
+plan_at-spent s t old key false view spends =
+    λ i q. (plan_at-keys_inside t q ∙ ap (option_map plan_of) (spends q)
+    ∙ sym (plan_at-keys_inside s q) ∙ ap (λ k. plan_at k q) view) i
 
 -- a slot that is shown as before is as sound
-pub IsLiveSlot-same : (moment least : ℕ) (u : Slot) (x : Stored) → content_of x ≡ content_of u.value → IsLiveSlot moment least u → IsLiveSlot moment least (record u { value = x })
+pub IsLiveSlot-same : (moment least : ℕ) (u : Slot) (x : Stored) → content_of x ≡ content_of u.value
+    → IsLiveSlot moment least u → IsLiveSlot moment least (record u { value = x })
 IsLiveSlot-same moment least u x same sound = record {
-  live = subst (λ (v : Content). IsLive moment (record { value = v; expiry = u.expiry })) (sym same) sound.live;
+  live = subst (λ (v : Content). IsLive moment (record { value = v; expiry = u.expiry }))
+      (sym same) sound.live;
   bound = sound.bound;
 }
 
 -- a slot that is shown as before leaves what is shown
-pub key_entries_of-set_value : (test : List ℕ → Bool) (es : List (List ℕ × Slot)) (u w : Slot) → lookup test es ≡ Some u → key_entry_of w ≡ key_entry_of u → key_entries_of (set_value test es w) ≡ key_entries_of es
+pub key_entries_of-set_value : (test : List ℕ → Bool) (es : List (List ℕ × Slot)) (u w : Slot)
+    → lookup test es ≡ Some u → key_entry_of w ≡ key_entry_of u
+    → key_entries_of (set_value test es w) ≡ key_entries_of es
 key_entries_of-set_value test [] u w found same = refl
-key_entries_of-set_value test (e ∷ es) u w found same = by (test e.0) found (key_entries_of-set_value test es u w)
+key_entries_of-set_value test (e ∷ es) u w found same =
+    by (test e.0) found (key_entries_of-set_value test es u w)
   where
-    by : (b : Bool) → cond b (Some e.1) (lookup test es) ≡ Some u → (lookup test es ≡ Some u → key_entry_of w ≡ key_entry_of u → key_entries_of (set_value test es w) ≡ key_entries_of es)
-        → key_entries_of (cond b ((e.0, w) ∷ es) (e ∷ set_value test es w)) ≡ key_entries_of (e ∷ es)
-    by true here rest = let one : e.1 ≡ u = cc here in ap (λ (x : KeyEntry). (e.0, x) ∷ key_entries_of es) (same ∙ ap key_entry_of (sym one))
+    by : (b : Bool) → cond b (Some e.1) (lookup test es) ≡ Some u
+        → (lookup test es ≡ Some u → key_entry_of w ≡ key_entry_of u
+        → key_entries_of (set_value test es w) ≡ key_entries_of es)
+        → key_entries_of (cond b ((e.0, w) ∷ es) (e ∷ set_value test es w))
+        ≡ key_entries_of (e ∷ es)
+    by true here rest = let one : e.1 ≡ u = cc here in
+        ap (λ (x : KeyEntry). (e.0, x) ∷ key_entries_of es) (same ∙ ap key_entry_of (sym one))
     by false there rest = ap (λ l. (e.0, key_entry_of e.1) ∷ l) (rest there same)
 
-pub keys_inside-same : (s t : Inside) → t.moment ≡ s.moment → t.spares ≡ s.spares → key_entries_of t.slots.entries ≡ key_entries_of s.slots.entries → keys_inside t ≡ keys_inside s
-keys_inside-same s t moment spares entries = λ i. record { moment = moment i; entries = entries i; plans = plans_of (spares i).entries }
+pub keys_inside-same : (s t : Inside) → t.moment ≡ s.moment → t.spares ≡ s.spares
+    → key_entries_of t.slots.entries ≡ key_entries_of s.slots.entries
+    → keys_inside t ≡ keys_inside s
+keys_inside-same s t moment spares entries =
+    λ i. record { moment = moment i; entries = entries i; plans = plans_of (spares i).entries }
 
 -- two kinds that the test finds the same are the same
 same_kind : (a b : ValueKind) → is_same_kind a b ≡ true → a ≡ b
@@ -264,20 +370,28 @@ same_kind CounterKind ListKind e = absurd (true≢false (sym e))
 same_kind CounterKind Zset e = absurd (true≢false (sym e))
 
 -- memory that was taken for a kind and a member is there
-pub planned : (kind : ValueKind) (member : List ℕ) (o : Option Spare) → is_plan_for kind member (option_map plan_of o) ≡ true → (p : Spare) × (o ≡ Some p) × (kind ≡ p.kind)
+pub planned : (kind : ValueKind) (member : List ℕ) (o : Option Spare)
+    → is_plan_for kind member (option_map plan_of o) ≡ true
+    → (p : Spare) × (o ≡ Some p) × (kind ≡ p.kind)
 planned kind member None e = absurd (true≢false (sym e))
-planned kind member (Some p) e = (p, refl, same_kind kind p.kind (left (is_same_kind kind p.kind) e))
+planned kind member (Some p) e =
+    (p, refl, same_kind kind p.kind (left (is_same_kind kind p.kind) e))
   where
     left : (b : Bool) → (b && bytes_eq member p.member) ≡ true → b ≡ true
     left true _ = refl
     left false h = h
 
 -- so a hash that is there has room for a field
-pub HasRoom-planned : (s : Inside) (old : Keys) (key member : List ℕ) (u : Slot) → IsKeySpace s → keys_inside s ≡ old → Some u ≡ get bytes_eq s.slots key → is_plan_for HashKind member (plan_at old key) ≡ true → HasRoom u.value
+pub HasRoom-planned : (s : Inside) (old : Keys) (key member : List ℕ) (u : Slot) → IsKeySpace s
+    → keys_inside s ≡ old → Some u ≡ get bytes_eq s.slots key
+    → is_plan_for HashKind member (plan_at old key) ≡ true → HasRoom u.value
 HasRoom-planned s old key member u kept view found for =
-    let plan = planned HashKind member (get bytes_eq s.spares key) (ap (is_plan_for HashKind member) (sym (plan_at-read s old key _ view refl)) ∙ for) in
-    let room : IsRoomFor (get bytes_eq s.slots key) plan.0.kind = (kept.ready key plan.0 plan.1).room in
-    let at_kind : IsRoomFor (get bytes_eq s.slots key) HashKind = subst (IsRoomFor (get bytes_eq s.slots key)) (sym plan.2) room in
+    let plan = planned HashKind member (get bytes_eq s.spares key)
+    (ap (is_plan_for HashKind member) (sym (plan_at-read s old key _ view refl)) ∙ for) in
+    let room : IsRoomFor (get bytes_eq s.slots key) plan.0.kind =
+    (kept.ready key plan.0 plan.1).room in
+    let at_kind : IsRoomFor (get bytes_eq s.slots key) HashKind =
+    subst (IsRoomFor (get bytes_eq s.slots key)) (sym plan.2) room in
     subst (λ (o : Option Slot). IsRoomFor o HashKind) (sym found) at_kind
 
 -- a fact beside a `Result`
@@ -286,34 +400,46 @@ OnErr-always (Ok x) p = tt
 OnErr-always (Err e) p = p
 
 -- what succeeds with room had none, where it failed
-pub false_from_err : {T E : Type 0} (b : Bool) (r : Result T E) (e : E) → (IsTrue b → IsOk r) → r ≡ Err e → b ≡ false
+pub false_from_err : {T E : Type 0} (b : Bool) (r : Result T E) (e : E) → (IsTrue b → IsOk r)
+    → r ≡ Err e → b ≡ false
 false_from_err true r e succeeds is = absurd (true≢false (sym (succeeds refl) ∙ ap is_ok is))
 false_from_err false r e succeeds is = refl
 
 -- more room for keys leaves what is kept
-pub IsKeySpace-roomier : (s t : Inside) → IsKeySpace s → t.moment ≡ s.moment → t.least_expiry ≡ s.least_expiry → t.spares ≡ s.spares → t.slots.entries ≡ s.slots.entries → spare s.slots ≤ spare t.slots → IsKeySpace t
+pub IsKeySpace-roomier : (s t : Inside) → IsKeySpace s → t.moment ≡ s.moment
+    → t.least_expiry ≡ s.least_expiry → t.spares ≡ s.spares → t.slots.entries ≡ s.slots.entries
+    → spare s.slots ≤ spare t.slots → IsKeySpace t
 IsKeySpace-roomier s t kept moment least spares entries room = record {
   moment = subst (λ m. m ≤ last_moment) (sym moment) kept.moment;
-  slots = λ key slot at. subst (λ (m : ℕ). IsLiveSlot m t.least_expiry slot) (sym moment) (subst (λ (m : ℕ). IsLiveSlot s.moment m slot) (sym least)
+  slots = λ key slot at. subst (λ (m : ℕ). IsLiveSlot m t.least_expiry slot) (sym moment)
+      (subst (λ (m : ℕ). IsLiveSlot s.moment m slot) (sym least)
       (kept.slots key slot (ap (lookup (bytes_eq key)) (sym entries) ∙ at)));
-  room = le_trans (subst (λ (n : ℕ). n ≤ spare s.slots) (ap (λ m. index_map_len m) (sym spares)) kept.room) room;
-  ready = λ key p at. subst (λ (o : Option Slot). IsReadySpare o p) (ap (lookup (bytes_eq key)) (sym entries)) (kept.ready key p (ap (λ m. get bytes_eq m key) (sym spares) ∙ at));
+  room = le_trans (subst (λ (n : ℕ). n ≤ spare s.slots)
+      (ap (λ m. index_map_len m) (sym spares)) kept.room) room;
+  ready = λ key p at. subst (λ (o : Option Slot). IsReadySpare o p)
+      (ap (lookup (bytes_eq key)) (sym entries))
+      (kept.ready key p (ap (λ m. get bytes_eq m key) (sym spares) ∙ at));
 }
 
 -- a new slot that is live is sound
-pub IsLiveSlot-new : (moment least : ℕ) (value : Stored) → IsLive moment (key_entry_of (new_slot value)) → IsLiveSlot moment least (new_slot value)
+pub IsLiveSlot-new : (moment least : ℕ) (value : Stored)
+    → IsLive moment (key_entry_of (new_slot value)) → IsLiveSlot moment least (new_slot value)
 IsLiveSlot-new moment least value live = record { live = live; bound = λ e at. absurd (cc at) }
 
 -- a new hash with one field, and a new counter, are live
-pub IsLive-one_field : (moment : ℕ) (pairs : List (List ℕ × ℤ)) (p : List ℕ × ℤ) → pairs ≡ p ∷ [] → IsLive moment (record { value = Fields pairs; expiry = None })
+pub IsLive-one_field : (moment : ℕ) (pairs : Pairs) (p : List ℕ × ℤ) → pairs ≡ p ∷ []
+    → IsLive moment (record { value = Fields pairs; expiry = None })
 IsLive-one_field moment pairs p one = record {
   ahead = λ e at. absurd (cc at);
   near = λ e at. absurd (cc at);
-  some_fields = λ qs at. let same : p ∷ [] ≡ qs = sym one ∙ cc at in subst (λ (ps : List (List ℕ × ℤ)). 0 < length ps) same (omega arith);
-  few_fields = λ qs at. let same : p ∷ [] ≡ qs = sym one ∙ cc at in subst (λ (ps : List (List ℕ × ℤ)). length ps ≤ member_limit) same (omega arith);
+  some_fields = λ qs at. let same : p ∷ [] ≡ qs = sym one ∙ cc at in
+      subst (λ (ps : Pairs). 0 < length ps) same (omega arith);
+  few_fields = λ qs at. let same : p ∷ [] ≡ qs = sym one ∙ cc at in
+      subst (λ (ps : Pairs). length ps ≤ member_limit) same (omega arith);
 }
 
-pub IsLive-counter : (moment : ℕ) (number : ℤ) → IsLive moment (record { value = Number number; expiry = None })
+pub IsLive-counter : (moment : ℕ) (number : ℤ)
+    → IsLive moment (record { value = Number number; expiry = None })
 IsLive-counter moment number = record {
   ahead = λ e at. absurd (cc at);
   near = λ e at. absurd (cc at);
@@ -321,21 +447,37 @@ IsLive-counter moment number = record {
   few_fields = λ qs at. absurd (cc at);
 }
 
-pub IsLiveSlot-counter : (moment least : ℕ) (u : Slot) (x : Stored) (number : ℤ) → content_of x ≡ Number number → IsLiveSlot moment least u → IsLiveSlot moment least (record u { value = x })
+pub IsLiveSlot-counter : (moment least : ℕ) (u : Slot) (x : Stored) (number : ℤ)
+    → content_of x ≡ Number number → IsLiveSlot moment least u
+    → IsLiveSlot moment least (record u { value = x })
 IsLiveSlot-counter moment least u x number is sound = record {
-  live = record { ahead = sound.live.ahead; near = sound.live.near; some_fields = λ qs at. absurd (cc (is, at)); few_fields = λ qs at. absurd (cc (is, at)) };
+  live = record {
+    ahead = sound.live.ahead;
+    near = sound.live.near;
+    some_fields = λ qs at. absurd (cc (is, at));
+    few_fields = λ qs at. absurd (cc (is, at));
+  };
   bound = sound.bound;
 }
 
 -- memory that was taken for a key, as the spares have it
-pub planned_spare : (s : Inside) (old : Keys) (key member : List ℕ) (kind : ValueKind) → keys_inside s ≡ old → is_plan_for kind member (plan_at old key) ≡ true → (p : Spare) × (get bytes_eq s.spares key ≡ Some p) × (kind ≡ p.kind)
-planned_spare s old key member kind view for = planned kind member (get bytes_eq s.spares key) (ap (is_plan_for kind member) (sym (plan_at-read s old key _ view refl)) ∙ for)
+pub planned_spare : (s : Inside) (old : Keys) (key member : List ℕ) (kind : ValueKind)
+    → keys_inside s ≡ old → is_plan_for kind member (plan_at old key) ≡ true
+    → (p : Spare) × (get bytes_eq s.spares key ≡ Some p) × (kind ≡ p.kind)
+planned_spare s old key member kind view for =
+    planned kind member (get bytes_eq s.spares key)
+    (ap (is_plan_for kind member) (sym (plan_at-read s old key _ view refl)) ∙ for)
 
-pub IsSome-planned : (s : Inside) (old : Keys) (key member : List ℕ) (kind : ValueKind) → keys_inside s ≡ old → is_plan_for kind member (plan_at old key) ≡ true → IsSome (get bytes_eq s.spares key)
-IsSome-planned s old key member kind view for = ap is_some (planned_spare s old key member kind view for).1
+pub IsSome-planned : (s : Inside) (old : Keys) (key member : List ℕ) (kind : ValueKind)
+    → keys_inside s ≡ old → is_plan_for kind member (plan_at old key) ≡ true
+    → IsSome (get bytes_eq s.spares key)
+IsSome-planned s old key member kind view for =
+    ap is_some (planned_spare s old key member kind view for).1
 
 -- the memory for a hash: no field, and room for one
-pub IsSpare-planned : (s : Inside) (old : Keys) (key member : List ℕ) (p : Spare) → IsKeySpace s → keys_inside s ≡ old → is_plan_for HashKind member (plan_at old key) ≡ true → get bytes_eq s.spares key ≡ Some p → (p.hash.pairs ≡ []) × (0 < p.hash.room)
+pub IsSpare-planned : (s : Inside) (old : Keys) (key member : List ℕ) (p : Spare) → IsKeySpace s
+    → keys_inside s ≡ old → is_plan_for HashKind member (plan_at old key) ≡ true
+    → get bytes_eq s.spares key ≡ Some p → (p.hash.pairs ≡ []) × (0 < p.hash.room)
 IsSpare-planned s old key member p kept view for at =
     let plan = planned_spare s old key member HashKind view for in
     let same : plan.0 ≡ p = cc (plan.1, at) in
@@ -344,8 +486,12 @@ IsSpare-planned s old key member p kept view for at =
     (ready.empty, subst (λ (k : ValueKind). IsSpareFor k p.hash.room) (sym kind) ready.spare)
 
 -- a change of one slot, after which the key is gone or not
-pub sets_then_gone : (f g h : List ℕ → Option Slot) (key : List ℕ) (w : Slot) (gone : Bool) → ((q : List ℕ) → g q ≡ with_key key (Some w) f q) → ((q : List ℕ) → h q ≡ (if gone then with_key key None g else g) q) → (q : List ℕ) → h q ≡ with_key key (if gone then None else Some w) f q
-sets_then_gone f g h key w true sets goes q = goes q ∙ ap (λ o. cond (bytes_eq key q) None o) (sets q) ∙ by (bytes_eq key q)
+pub sets_then_gone : (f g h : List ℕ → Option Slot) (key : List ℕ) (w : Slot) (gone : Bool)
+    → ((q : List ℕ) → g q ≡ with_key key (Some w) f q)
+    → ((q : List ℕ) → h q ≡ (if gone then with_key key None g else g) q) → (q : List ℕ)
+    → h q ≡ with_key key (if gone then None else Some w) f q
+sets_then_gone f g h key w true sets goes q =
+    goes q ∙ ap (λ o. cond (bytes_eq key q) None o) (sets q) ∙ by (bytes_eq key q)
   where
     by : (b : Bool) → cond {A = Option Slot} b None (cond b (Some w) (f q)) ≡ cond b None (f q)
     by true = refl
@@ -353,114 +499,147 @@ sets_then_gone f g h key w true sets goes q = goes q ∙ ap (λ o. cond (bytes_e
 sets_then_gone f g h key w false sets goes q = goes q ∙ sets q
 
 -- a slot is there where what is shown has a counter
-pub IsSome-counter : (keys : Keys) (key : List ℕ) (o : Option Slot) → entry_at keys key ≡ option_map key_entry_of o → IsTrue (is_there (counter_at (entry_at keys key))) → IsSome o
-IsSome-counter keys key None e there = absurd (true≢false (sym there ∙ ap (λ x. is_there (counter_at x)) e))
+pub IsSome-counter : (keys : Keys) (key : List ℕ) (o : Option Slot)
+    → entry_at keys key ≡ option_map key_entry_of o
+    → IsTrue (is_there (counter_at (entry_at keys key))) → IsSome o
+IsSome-counter keys key None e there =
+    absurd (true≢false (sym there ∙ ap (λ x. is_there (counter_at x)) e))
 IsSome-counter keys key (Some slot) e there = refl
 
 -- a value with a field less that isn't empty is one that a key may hold
-some_without_field : (value : Content) (pairs : List (List ℕ × ℤ)) → is_empty_hash value ≡ false → value ≡ Fields pairs → 0 < length pairs
+some_without_field : (value : Content) (pairs : Pairs) → is_empty_hash value ≡ false
+    → value ≡ Fields pairs → 0 < length pairs
 some_without_field value [] some e = absurd (true≢false (sym (ap is_empty_hash e) ∙ some))
 some_without_field value (p ∷ ps) some e = omega arith
 
-few_without_field : (field : List ℕ) (value : Content) (pairs : List (List ℕ × ℤ)) → ((before : List (List ℕ × ℤ)) → value ≡ Fields before → length before ≤ member_limit) → content_without_field field value ≡ Fields pairs → length pairs ≤ member_limit
+few_without_field : (field : List ℕ) (value : Content) (pairs : Pairs)
+    → ((before : Pairs) → value ≡ Fields before → length before ≤ member_limit)
+    → content_without_field field value ≡ Fields pairs → length pairs ≤ member_limit
 few_without_field field (Fields before) pairs few e =
     let same : without_field field before ≡ pairs = cc e in
-    subst (λ (ps : List (List ℕ × ℤ)). length ps ≤ member_limit) same (le_trans (length-without_field field before) (few before refl))
+    subst (λ (ps : Pairs). length ps ≤ member_limit) same
+    (le_trans (length-without_field field before) (few before refl))
 few_without_field field (Number n) pairs few e = absurd (cc e)
 
-pub IsLiveSlot-without_field : (moment least : ℕ) (u : Slot) (x : Stored) (field : List ℕ) (emptied : Bool) → IsLiveSlot moment least u → emptied ≡ is_empty_hash (content_of x) → content_of x ≡ content_without_field field (content_of u.value)
+pub IsLiveSlot-without_field : (moment least : ℕ) (u : Slot) (x : Stored) (field : List ℕ)
+    (emptied : Bool) → IsLiveSlot moment least u → emptied ≡ is_empty_hash (content_of x)
+    → content_of x ≡ content_without_field field (content_of u.value)
     → ForSome (if emptied then None else Some (record u { value = x })) (IsLiveSlot moment least)
 IsLiveSlot-without_field moment least u x field true sound empty same = λ w at. absurd (cc at)
-IsLiveSlot-without_field moment least u x field false sound empty same = ForSome-some (IsLiveSlot moment least) (record u { value = x }) (record {
-  live = record {
-    ahead = sound.live.ahead;
-    near = sound.live.near;
-    some_fields = λ pairs e. some_without_field (content_of x) pairs (sym empty) e;
-    few_fields = λ pairs e. few_without_field field (content_of u.value) pairs sound.live.few_fields (sym same ∙ e);
-  };
-  bound = sound.bound;
-})
+IsLiveSlot-without_field moment least u x field false sound empty same =
+    ForSome-some (IsLiveSlot moment least) (record u { value = x }) (record {
+      live = record {
+        ahead = sound.live.ahead;
+        near = sound.live.near;
+        some_fields = λ pairs e. some_without_field (content_of x) pairs (sym empty) e;
+        few_fields = λ pairs e. few_without_field field (content_of u.value) pairs
+            sound.live.few_fields (sym same ∙ e);
+      };
+      bound = sound.bound;
+    })
 
-pub IsRoomFor-without_field : (o : Option Slot) (u w : Slot) (emptied : Bool) → Some u ≡ o → (HasRoom u.value → HasRoom w.value) → (kind : ValueKind) → IsRoomFor o kind → IsRoomFor (if emptied then None else Some w) kind
+pub IsRoomFor-without_field : (o : Option Slot) (u w : Slot) (emptied : Bool) → Some u ≡ o
+    → (HasRoom u.value → HasRoom w.value) → (kind : ValueKind) → IsRoomFor o kind
+    → IsRoomFor (if emptied then None else Some w) kind
 IsRoomFor-without_field o u w true found keeps kind room = tt
-IsRoomFor-without_field o u w false found keeps kind room = IsRoomFor-some o u w found keeps kind room
+IsRoomFor-without_field o u w false found keeps kind room =
+    IsRoomFor-some o u w found keeps kind room
 
-pub key_entry_of-without_field : (u : Slot) (x : Stored) (field : List ℕ) (emptied : Bool) → emptied ≡ is_empty_hash (content_of x) → content_of x ≡ content_without_field field (content_of u.value)
-    → option_map key_entry_of (if emptied then None else Some (record u { value = x })) ≡ entry_without_field field (Some (key_entry_of u))
+pub key_entry_of-without_field : (u : Slot) (x : Stored) (field : List ℕ) (emptied : Bool)
+    → emptied ≡ is_empty_hash (content_of x)
+    → content_of x ≡ content_without_field field (content_of u.value)
+    → option_map key_entry_of (if emptied then None else Some (record u { value = x }))
+    ≡ entry_without_field field (Some (key_entry_of u))
 key_entry_of-without_field u x field emptied empty same =
-    by emptied ∙ ap (λ (b : Bool). if b then None else Some (key_entry_of (record u { value = x }))) empty ∙ ap (λ v. entry_with_value v u.expiry) same
+    by emptied ∙ ap (λ (b : Bool). if b then None else Some (key_entry_of (record u { value = x })))
+    empty ∙ ap (λ v. entry_with_value v u.expiry) same
   where
-    by : (b : Bool) → option_map key_entry_of (if b then None else Some (record u { value = x })) ≡ (if b then None else Some (key_entry_of (record u { value = x })))
+    by : (b : Bool) → option_map key_entry_of (if b then None else Some (record u { value = x }))
+        ≡ (if b then None else Some (key_entry_of (record u { value = x })))
     by true = refl
     by false = refl
 
 -- a hash with as many fields as a key may have takes no new one
-pub field_after_increment-full : (field : List ℕ) (by : ℤ) (h : Result (List (List ℕ × ℤ)) KeyFault) (takes : Bool) → field_of field h ≡ Ok None
-    → ((pairs : List (List ℕ × ℤ)) → h ≡ Ok pairs → takes ≡ nat_lt (length pairs) member_limit) → takes ≡ false → field_after_increment field by h ≡ Err TooMany
+pub field_after_increment-full : (field : List ℕ) (by : ℤ) (h : Result Pairs KeyFault)
+    (takes : Bool) → field_of field h ≡ Ok None
+    → ((pairs : Pairs) → h ≡ Ok pairs → takes ≡ nat_lt (length pairs) member_limit) → takes ≡ false
+    → field_after_increment field by h ≡ Err TooMany
 field_after_increment-full field by (Err fault) takes absent counts full = absurd (cc absent)
 field_after_increment-full field by (Ok pairs) takes absent counts full =
     let none : field_value field pairs ≡ None = cc absent in
     let many : nat_lt (length pairs) member_limit ≡ false = sym (counts pairs refl) ∙ full in
-    ap (number_after_increment by (nat_lt (length pairs) member_limit)) none ∙ ap (λ (b : Bool). if b then Ok by else Err TooMany) many
+    ap (number_after_increment by (nat_lt (length pairs) member_limit)) none
+    ∙ ap (λ (b : Bool). if b then Ok by else Err TooMany) many
 
 -- where the slots are shown as before, the entries stay
-pub entry_at-same : (s t : Inside) (keys : Keys) → keys_inside s ≡ keys → key_entries_of t.slots.entries ≡ key_entries_of s.slots.entries → entry_at (keys_inside t) ≡ entry_at keys
+pub entry_at-same : (s t : Inside) (keys : Keys) → keys_inside s ≡ keys
+    → key_entries_of t.slots.entries ≡ key_entries_of s.slots.entries
+    → entry_at (keys_inside t) ≡ entry_at keys
 unfolding entry_at
 entry_at-same s t keys view same = (λ i key. lookup (bytes_eq key) (same i)) ∙ ap entry_at view
 
--- a slot is kept where nothing changed
-pub KeepsSlot-same : (o : Option Slot) → KeepsSlot o o
-KeepsSlot-same None = tt
-KeepsSlot-same (Some u) = (refl, λ room. room)
-
 -- a slot that is kept is as sound, and has what room it had
-IsLiveSlot-KeepsSlot : (moment least : ℕ) (o p : Option Slot) → KeepsSlot o p → ForSome o (IsLiveSlot moment least) → ForSome p (IsLiveSlot moment least)
+IsLiveSlot-KeepsSlot : (moment least : ℕ) (o p : Option Slot) → KeepsSlot o p
+    → ForSome o (IsLiveSlot moment least) → ForSome p (IsLiveSlot moment least)
 IsLiveSlot-KeepsSlot moment least o None kept sound = λ w at. absurd (cc at)
 IsLiveSlot-KeepsSlot moment least None (Some w) kept sound = absurd kept
-IsLiveSlot-KeepsSlot moment least (Some u) (Some w) kept sound = ForSome-some (IsLiveSlot moment least) w (
+IsLiveSlot-KeepsSlot moment least (Some u) (Some w) kept sound =
+    ForSome-some (IsLiveSlot moment least) w (
     let before = sound u refl in
     record {
       live = subst (IsLive moment) (sym kept.0) before.live;
-      bound = subst (λ (x : Option ℕ). ForSome x (λ expiry. least ≤ expiry)) (sym (ap (λ (e : KeyEntry). e.expiry) kept.0)) before.bound;
+      bound = subst (λ (x : Option ℕ). ForSome x (λ expiry. least ≤ expiry))
+          (sym (ap (λ (e : KeyEntry). e.expiry) kept.0)) before.bound;
     })
 
-IsRoomFor-KeepsSlot : (o p : Option Slot) (kind : ValueKind) → KeepsSlot o p → IsRoomFor o kind → IsRoomFor p kind
+IsRoomFor-KeepsSlot : (o p : Option Slot) (kind : ValueKind) → KeepsSlot o p → IsRoomFor o kind
+    → IsRoomFor p kind
 IsRoomFor-KeepsSlot o None kind kept room = tt
 IsRoomFor-KeepsSlot None (Some w) kind kept room = absurd kept
-IsRoomFor-KeepsSlot (Some u) (Some w) kind kept room = IsRoomFor-some (Some u) u w refl kept.1 kind room
+IsRoomFor-KeepsSlot (Some u) (Some w) kind kept room =
+    IsRoomFor-some (Some u) u w refl kept.1 kind room
 
 -- what is kept stays so where each slot is, and the spares are as before
-pub IsKeySpace-KeepsSlot : (s t : Inside) → IsKeySpace s → t.moment ≡ s.moment → t.least_expiry ≡ s.least_expiry → t.spares.entries ≡ s.spares.entries → ((q : List ℕ) → KeepsSlot (get bytes_eq s.slots q) (get bytes_eq t.slots q)) → spare s.slots ≤ spare t.slots → IsKeySpace t
+pub IsKeySpace-KeepsSlot : (s t : Inside) → IsKeySpace s → t.moment ≡ s.moment
+    → t.least_expiry ≡ s.least_expiry → t.spares.entries ≡ s.spares.entries
+    → ((q : List ℕ) → KeepsSlot (get bytes_eq s.slots q) (get bytes_eq t.slots q))
+    → spare s.slots ≤ spare t.slots → IsKeySpace t
 IsKeySpace-KeepsSlot s t kept moment least spares slots room = record {
   moment = subst (λ m. m ≤ last_moment) (sym moment) kept.moment;
-  slots = λ key slot at. subst (λ (m : ℕ). IsLiveSlot m t.least_expiry slot) (sym moment) (subst (λ (m : ℕ). IsLiveSlot s.moment m slot) (sym least)
-      (IsLiveSlot-KeepsSlot s.moment s.least_expiry (get bytes_eq s.slots key) (get bytes_eq t.slots key) (slots key) (kept.slots key) slot at));
+  slots = λ key slot at. subst (λ (m : ℕ). IsLiveSlot m t.least_expiry slot) (sym moment)
+      (subst (λ (m : ℕ). IsLiveSlot s.moment m slot) (sym least)
+      (IsLiveSlot-KeepsSlot s.moment s.least_expiry (get bytes_eq s.slots key)
+      (get bytes_eq t.slots key) (slots key) (kept.slots key) slot at));
   room = le_trans (subst (λ (n : ℕ). n ≤ spare s.slots) (ap length (sym spares)) kept.room) room;
   ready = λ key p at. let r = kept.ready key p (ap (lookup (bytes_eq key)) (sym spares) ∙ at) in
-      record { empty = r.empty; spare = r.spare; room = IsRoomFor-KeepsSlot (get bytes_eq s.slots key) (get bytes_eq t.slots key) p.kind (slots key) r.room };
+      record {
+        empty = r.empty;
+        spare = r.spare;
+        room = IsRoomFor-KeepsSlot (get bytes_eq s.slots key) (get bytes_eq t.slots key) p.kind
+            (slots key) r.room;
+      };
 }
 
 -- and where memory for a member of one key is added
-pub IsKeySpace-prepared : (s t : Inside) (key : List ℕ) (p : Spare) → IsKeySpace s → t.moment ≡ s.moment → t.least_expiry ≡ s.least_expiry → t.slots ≡ s.slots
-    → ((q : List ℕ) → get bytes_eq t.spares q ≡ with_key key (Some p) (get bytes_eq s.spares) q) → index_map_len t.spares ≤ spare t.slots → IsReadySpare (get bytes_eq t.slots key) p → IsKeySpace t
+pub IsKeySpace-prepared : (s t : Inside) (key : List ℕ) (p : Spare) → IsKeySpace s
+    → t.moment ≡ s.moment → t.least_expiry ≡ s.least_expiry → t.slots ≡ s.slots
+    → WritesKey (get bytes_eq s.spares) (get bytes_eq t.spares) key (Some p)
+    → index_map_len t.spares ≤ spare t.slots → IsReadySpare (get bytes_eq t.slots key) p
+    → IsKeySpace t
 IsKeySpace-prepared s t key p kept moment least slots sets room ready = record {
   moment = subst (λ m. m ≤ last_moment) (sym moment) kept.moment;
-  slots = λ q slot at. subst (λ (m : ℕ). IsLiveSlot m t.least_expiry slot) (sym moment) (subst (λ (m : ℕ). IsLiveSlot s.moment m slot) (sym least)
+  slots = λ q slot at. subst (λ (m : ℕ). IsLiveSlot m t.least_expiry slot) (sym moment)
+      (subst (λ (m : ℕ). IsLiveSlot s.moment m slot) (sym least)
       (kept.slots q slot (ap (λ m. get bytes_eq m q) (sym slots) ∙ at)));
   room = room;
-  ready = at_each-with_key (λ q o. ForSome o (IsReadySpare (get bytes_eq t.slots q))) (get bytes_eq s.spares) (get bytes_eq t.spares) key (Some p) sets
+  ready = at_each-with_key (λ q o. ForSome o (IsReadySpare (get bytes_eq t.slots q)))
+      (get bytes_eq s.spares) (get bytes_eq t.spares) key (Some p) sets
       (ForSome-some (IsReadySpare (get bytes_eq t.slots key)) p ready)
-      (λ q x at. subst (λ (o : Option Slot). IsReadySpare o x) (ap (λ m. get bytes_eq m q) (sym slots)) (kept.ready q x at));
+      (λ q x at. subst (λ (o : Option Slot). IsReadySpare o x)
+      (ap (λ m. get bytes_eq m q) (sym slots)) (kept.ready q x at));
 }
 
--- room for a member of another kind than a hash is none of the value's own
-pub IsRoomFor-other : (o : Option Slot) (kind : ValueKind) → (kind ≡ HashKind → ⊥) → IsRoomFor o kind
-IsRoomFor-other None kind other = tt
-IsRoomFor-other (Some slot) HashKind other = absurd (other refl)
-IsRoomFor-other (Some slot) ListKind other = tt
-IsRoomFor-other (Some slot) Zset other = tt
-IsRoomFor-other (Some slot) CounterKind other = tt
-
+-- what a key that was there adds to the number of keys
 pub one_at_most : (b : Bool) → (if b then 0 else 1) ≤ 1
 one_at_most true = omega arith
 one_at_most false = omega arith

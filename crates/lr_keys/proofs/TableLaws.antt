@@ -29,7 +29,8 @@ module _ {X : Type 0} (key : List ℕ) (value : Option X) (table : List ℕ → 
   with_key-other q apart = ap (λ b. cond b value (table q)) (bytes_eq-other key q apart)
 
   -- the last of two at one key stands
-  pub with_key-with_key : (before : Option X) → with_key key value (with_key key before table) ≡ with_key key value table
+  pub with_key-with_key : (before : Option X)
+      → with_key key value (with_key key before table) ≡ with_key key value table
   with_key-with_key before = λ i q. by (bytes_eq key q) q i
     where
       by : (b : Bool) (q : List ℕ) → cond b value (cond b before (table q)) ≡ cond b value (table q)
@@ -37,19 +38,25 @@ module _ {X : Type 0} (key : List ℕ) (value : Option X) (table : List ℕ → 
       by false q = refl
 
 -- what stands there already
-pub with_key-own : {X : Type 0} (key : List ℕ) (table : List ℕ → Option X) → with_key key (table key) table ≡ table
+pub with_key-own : {X : Type 0} (key : List ℕ) (table : List ℕ → Option X)
+    → with_key key (table key) table ≡ table
 with_key-own {X} key table = λ i q. by q (bytes_eq key q) refl i
   where
     by : (q : List ℕ) (b : Bool) → bytes_eq key q ≡ b → cond b (table key) (table q) ≡ table q
     by q true e = ap table (same_bytes key q e)
     by q false e = refl
 
-pub with_key-absent : {X : Type 0} (key : List ℕ) (table : List ℕ → Option X) → table key ≡ None → with_key key None table ≡ table
-with_key-absent key table absent = ap (λ o. with_key key o table) (sym absent) ∙ with_key-own key table
+pub with_key-absent : {X : Type 0} (key : List ℕ) (table : List ℕ → Option X) → table key ≡ None
+    → with_key key None table ≡ table
+with_key-absent key table absent = ap (λ o. with_key key o table) (sym absent)
+    ∙ with_key-own key table
 
 -- a fact of each key after a change at one key
-pub at_each-with_key : {X : Type 0} (P : List ℕ → Option X → Type 0) (f g : List ℕ → Option X) (key : List ℕ) (w : Option X) → ((q : List ℕ) → g q ≡ with_key key w f q) → P key w → ((q : List ℕ) → P q (f q)) → (q : List ℕ) → P q (g q)
-at_each-with_key {X} P f g key w sets here there q = subst (P q) (sym (sets q)) (by (bytes_eq key q) refl)
+pub at_each-with_key : {X : Type 0} (P : List ℕ → Option X → Type 0) (f g : List ℕ
+    → Option X) (key : List ℕ) (w : Option X) → ((q : List ℕ) → g q ≡ with_key key w f q) → P key w
+    → ((q : List ℕ) → P q (f q)) → (q : List ℕ) → P q (g q)
+at_each-with_key {X} P f g key w sets here there q =
+    subst (P q) (sym (sets q)) (by (bytes_eq key q) refl)
   where
     by : (b : Bool) → bytes_eq key q ≡ b → P q (cond b w (f q))
     by true e = subst (λ k. P k w) (same_bytes key q e) here

@@ -29,15 +29,6 @@ impl Model for FieldMap {
 }
 
 impl FieldMap {
-    /// No fields, and no memory.
-    pub(crate) fn new(alloc: Global) -> Self
-        ensures { result.pairs ≡ [] }
-    {
-        FieldMap {
-            numbers: IndexMap::new(alloc),
-        }
-    }
-
     /// No fields, and room for some.
     pub(crate) fn with_room(alloc: Global, fields: usize) -> Result<Self, AllocError>
         ensures none { IfOk result (λ f. f.pairs ≡ []) }
@@ -96,8 +87,8 @@ impl FieldMap {
         self.numbers.insert(*field, number).unwrap();
     }
 
-    /// Puts a new field last. With no room of its own for that, it takes memory, and leaves what room
-    /// there was.
+    /// Puts a new field last. With no room of its own for that, it takes memory, and leaves what
+    /// room there was.
     pub(crate) fn add(
         &mut self,
         field: &Brief,

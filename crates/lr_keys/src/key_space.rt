@@ -7,7 +7,6 @@ ghost use Rattle.lr_keys.specs.KeySpace.{Answers, AreLive, ChangesEntry, IsLive,
 ghost use Rattle.lr_keys.specs.Table.{with_key};
 ghost use Rattle.lr_limits.specs.Limits.{last_moment, longest_lease, member_limit};
 
-use super::PREPARED_KEYS;
 use super::fault::KeyFault;
 use super::field_map::{FieldMap, checked_sum};
 use super::slot::{Slot, Spare, Stored};
@@ -19,12 +18,16 @@ use lr_text::Brief;
 use std::alloc::{AllocError, Global};
 use std::marker::Model;
 
+// For how many keys there is room from the start to note what is prepared.
+const PREPARED_KEYS: usize = 4;
+
 /// The fields of a hash and their numbers, in order of making.
 pub type Fields = Vec<(Brief, i64)>;
 
 /// Keys with a value, and an expiry or none, at a moment.
 ///
-/// A moment is a number of milliseconds. A key whose expiry is at most the moment is gone.
+/// A moment is a number of milliseconds, at most `LAST_MOMENT`. A key whose expiry is at most the
+/// moment is gone. A key has at most `MOST_MEMBERS` members. (Both are numbers of `lr_limits`.)
 #[derive(Drop)]
 pub struct KeySpace {
     moment: u64,
@@ -129,7 +132,8 @@ impl KeySpace {
         }
     }
 
-    /// The number of a field of the hash, if the field is there.
+    /// The number of a field of the hash, if the field is there. `WrongKind` where the key holds
+    /// another kind.
     pub fn hget(&self, key: &Brief, field: &Brief) -> Result<Option<i64>, KeyFault>
         ensures { result ≡ field_at field.now (entry_at self.now key.now) }
     {
@@ -139,7 +143,8 @@ impl KeySpace {
         }
     }
 
-    /// The number of the counter, if the key is there.
+    /// The number of the counter, if the key is there. `WrongKind` where the key holds another
+    /// kind.
     pub fn get(&self, key: &Brief) -> Result<Option<i64>, KeyFault>
         ensures { result ≡ counter_at (entry_at self.now key.now) }
     {
@@ -149,7 +154,8 @@ impl KeySpace {
         }
     }
 
-    /// The fields of the hash and their numbers, in order of making.
+    /// The fields of the hash and their numbers, in order of making. `WrongKind` where the key
+    /// holds another kind, `NoMemory` where there is no memory for them.
     pub fn hgetall(&self, alloc: Global, key: &Brief) -> Result<Fields, KeyFault>
         ensures { Answers (λ fields. fields.items) result (hash_at (entry_at self.now key.now)) }
     {
@@ -194,9 +200,9 @@ impl KeySpace {
     /// Adds to a field of the hash, and gives the sum. A field that isn't there counts as 0, and a
     /// key that isn't there becomes a hash with no expiry.
     ///
-    /// `WrongKind` where the key holds another kind, `TooMany` where the new field would be one more
-    /// than a key may have, `Overflow` where the sum leaves 64 signed bits. `NoMemory` comes only for
-    /// a new field that isn't prepared. After an error nothing has changed.
+    /// `WrongKind` where the key holds another kind, `TooMany` where the new field would be one
+    /// more than a key may have, `Overflow` where the sum leaves 64 signed bits. `NoMemory` comes
+    /// only for a new field that isn't prepared. After an error nothing has changed.
     pub fn hincrby(
         &mut self,
         alloc: Global,
@@ -231,8 +237,9 @@ impl KeySpace {
     /// Adds to the counter, and gives the sum. A key that isn't there becomes a counter with no
     /// expiry.
     ///
-    /// `WrongKind` where the key holds another kind, `Overflow` where the sum leaves 64 signed bits.
-    /// `NoMemory` comes only for a new key that isn't prepared. After an error nothing has changed.
+    /// `WrongKind` where the key holds another kind, `Overflow` where the sum leaves 64 signed
+    /// bits. `NoMemory` comes only for a new key that isn't prepared. After an error nothing has
+    /// changed.
     pub fn incrby(&mut self, key: &Brief, by: i64) -> Result<i64, KeyFault>
         ensures answer { Answers (λ n. n) result
             (counter_after_increment by (counter_at (entry_at self.old key.now))) }
@@ -279,8 +286,8 @@ impl KeySpace {
     /// itself. For a counter the member is empty. After an error nothing has changed.
     ///
     /// Until the next [`settle`](KeySpace::settle) the first call that makes the member finds that
-    /// memory, whatever was removed before. A key has one member prepared: a second call for the key
-    /// replaces the first.
+    /// memory, whatever was removed before. A key has one member prepared: a second call for the
+    /// key replaces the first.
     pub fn prepare(
         &mut self,
         alloc: Global,

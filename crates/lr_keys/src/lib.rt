@@ -2,8 +2,8 @@
 //!
 //! A contract sees a [`KeySpace`] as a moment and two tables. `entry_at` says what stands at a key:
 //! the fields of a hash in order of making, or the number of a counter, and the expiry. `plan_at`
-//! says for which new member of a key memory is prepared. Nothing that a contract says depends on an
-//! order among the keys.
+//! says for which new member of a key memory is prepared. Nothing that a contract says depends on
+//! an order among the keys.
 #![tactic(auto)]
 
 mod fault;
@@ -16,9 +16,6 @@ mod value_kind;
 pub use fault::KeyFault;
 pub use key_space::{Fields, KeySpace};
 pub use value_kind::ValueKind;
-
-/// For how many keys a key space has room to note what is prepared.
-pub const PREPARED_KEYS: usize = 4;
 
 #[cfg(test)]
 mod tests;

@@ -116,8 +116,8 @@ impl Stored {
         }
     }
 
-    /// Puts a new field last in a hash. With no room of its own for that, it takes memory, and leaves
-    /// what room there was.
+    /// Puts a new field last in a hash. With no room of its own for that, it takes memory, and
+    /// leaves what room there was.
     pub(crate) fn add_field(
         &mut self,
         field: &Brief,

@@ -96,8 +96,8 @@ fn has_left(keys: &mut KeySpace, moment: u64, key: &Brief, millis: i64) -> bool 
     keys.pttl(key) == millis
 }
 
-// Whether a key that was given 500 milliseconds at 1,000 is gone from 1,500 on, and no moment passes
-// backwards.
+// Whether a key that was given 500 milliseconds at 1,000 is gone from 1,500 on, and no moment goes
+// back.
 fn expires(keys: &mut KeySpace, lock: &Brief) -> bool {
     has_left(keys, 1_000, lock, -1)
         && keys.pexpire(lock, 500)
@@ -128,8 +128,8 @@ fn prepare(
     keys.prepare(alloc, number, ValueKind::Counter, &Brief::new())
 }
 
-// Whether what was prepared serves the first call that makes the member, though the key was made and
-// removed before.
+// Whether what was prepared serves the first call that makes the member, though the key was made
+// and removed before.
 fn serves(alloc: Global, keys: &mut KeySpace, lock: &Brief, owner: &Brief, number: &Brief) -> bool {
     keys.hincrby(alloc, lock, number, 1) == Ok(1)
         && keys.del(lock)

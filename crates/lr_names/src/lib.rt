@@ -2,6 +2,7 @@
 #![tactic(auto)]
 
 mod channel;
+mod id;
 mod kind;
 mod name;
 mod owner;
@@ -11,6 +12,7 @@ mod post;
 mod tests;
 
 pub use channel::{Channel, ChannelFault};
+pub use id::read_id;
 pub use kind::{Kind, Wakes};
 pub use name::{Name, NameFault};
 pub use owner::{Owner, OwnerFault};

@@ -1,15 +1,13 @@
 ghost use Rattle.std.specs.Prelude.{◌≡◌, ◌≢◌, ◌↔◌, ◌<◌, ◌≤◌, ℕ, List, length, All, decimal, Some, IsTrue, IsErr, IsNone, IfOk, IfSome};
 ghost use Rattle.lr_names.specs.Owner.{ThreadOfClient, IsThread, IsId, IsOwner, id_text, owner_text};
 
+use crate::id::{ID_BYTES, id_fits, read_id};
 use itoa::Buffer;
 use lr_limits::MOST_THREADS;
 use lr_text::{Brief, read_number, split_once};
 use std::marker::Model;
 use std::{fmt, str};
 use uuid::Uuid;
-
-/// The length of an id's text, in bytes.
-const ID_BYTES: usize = 36;
 
 /// A thread of a client. Threads are numbered from 1 to 256.
 #[derive(Clone, Copy, PartialEq, Eq, Hash)]
@@ -99,17 +97,6 @@ impl Owner {
     }
 }
 
-// What the type of an id says, which no clause can say of an array.
-fn id_fits(id: &[u8; 16])
-    ensures { IsId id.now }
-{
-    bytes_fit(id.as_slice());
-}
-
-fn bytes_fit(bytes: &[u8])
-    ensures { All (λ b. b < 256) bytes.now }
-{}
-
 pub(crate) fn read_owner(text: &[u8]) -> Option<Owner>
     ensures text { IfSome result (λ owner. text.now ≡ owner_text owner) }
     ensures owner { IfSome result IsOwner }
@@ -121,27 +108,6 @@ pub(crate) fn read_owner(text: &[u8]) -> Option<Owner>
         client: read_id(id)?,
         thread: read_thread(thread)?,
     })
-}
-
-fn read_id(text: &[u8]) -> Option<Uuid>
-    ensures text { IfSome result (λ id. text.now ≡ id_text id) }
-    ensures id { IfSome result IsId }
-    ensures none { IsNone result → (id : List ℕ) → IsId id → text.now ≢ id_text id }
-{
-    let id = Uuid::try_parse_ascii(text).ok()?;
-    // Other forms of an id are parsed too.
-    if !is_written(&id, text) {
-        return None;
-    }
-    id_fits(id.as_bytes());
-    Some(id)
-}
-
-fn is_written(id: &Uuid, text: &[u8]) -> bool
-    ensures { IsTrue result ↔ (text.now ≡ id_text id.now) }
-{
-    let mut buffer = [0; ID_BYTES];
-    id.hyphenated().encode_lower(&mut buffer).as_bytes() == text
 }
 
 fn read_thread(text: &[u8]) -> Option<u32>

@@ -30,7 +30,7 @@ fn owners() -> bool {
     let ids = is_owner(b"67E55044-10b1-426f-9247-bb680e5fe0c8:1")
         || is_owner(b"67e5504410b1426f9247bb680e5fe0c8:1")
         || is_owner(b"67e55044-10b1-426f-9247-bb680e5fe0c8");
-    good && !threads && !ids
+    good && !threads && !ids && read_id(&OWNER[..36]).is_some()
 }
 
 fn is_written(owner: &Owner) -> bool {

@@ -1,9 +1,10 @@
--- The functions of the server, after the calls of the Redisson guide. Their words are this project's own.
+-- The functions of the server, after the calls of the Redisson guide. Their words are this
+-- project's own.
 use Rattle.std.specs.Prelude.{ℕ, List, codes, Bool, true, false}
 use Rattle.lr_objects.specs.declared.function.Function.{Function}
 use Rattle.lr_objects.specs.declared.function.Function.TheVariants.{LockTry, LockUnlock, LockRenew, LockForce}
 use Rattle.lr_objects.specs.declared.function.Arguments.{Arguments}
-use Rattle.lr_objects.specs.declared.function.Arguments.TheVariants.{Lease, Number, Nothing, Id, IdAndLease}
+use Rattle.lr_objects.specs.declared.function.Arguments.TheVariants.{Lease, Nothing}
 
 -- the word of a function
 abbrev pub function_word : Function → List ℕ

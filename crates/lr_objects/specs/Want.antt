@@ -1,7 +1,6 @@
 -- What a thread wants, the call that it is, and how a schedule writes it.
-use Rattle.std.specs.Prelude.{◌≡◌, ℕ, ◌<◌, ◌^◌, List, [], ◌∷◌, replicate, codes, decimal, Bool, true}
+use Rattle.std.specs.Prelude.{ℕ, List, [], ◌∷◌, codes, decimal, Bool}
 use Rattle.lr_limits.specs.Limits.{watchdog_lease}
-use Rattle.lr_names.specs.Name.{IsName}
 use Rattle.lr_names.specs.Owner.{ThreadOfClient, id_text}
 use Rattle.lr_objects.specs.declared.function.Function.{Function}
 use Rattle.lr_objects.specs.declared.function.Function.TheVariants as functions
@@ -14,7 +13,7 @@ use Rattle.lr_objects.specs.declared.want.Lease.TheVariants.{Watch, For}
 use Rattle.lr_objects.specs.declared.want.Mode.{Mode}
 use Rattle.lr_objects.specs.declared.want.Mode.TheVariants as modes
 use Rattle.lr_objects.specs.declared.want.Want.{Want}
-use Rattle.lr_objects.specs.Function.{function_word, arguments_of, begins}
+use Rattle.lr_objects.specs.Function.{function_word, arguments_of}
 
 -- a lease in milliseconds: that of the watchdog is Redisson's default
 abbrev pub lease_of : Lease → ℕ
@@ -53,4 +52,5 @@ argument_words arguments.IdAndLease want = id_text want.id ∷ lease_word want.l
 
 -- the words of a want: the function, the name, and what the function is given
 abbrev pub want_words : Want → List (List ℕ)
-want_words want = function_word want.function ∷ want.name ∷ argument_words (arguments_of want.function) want
+want_words want =
+    function_word want.function ∷ want.name ∷ argument_words (arguments_of want.function) want

@@ -1,3 +1,8 @@
+ghost use Rattle.std.specs.Prelude.{◌≡◌, ◌≢◌, IsNone, IfSome};
+ghost use Rattle.lr_text.specs.Table.{with_word};
+ghost use Rattle.lr_objects.specs.declared.function.Function.{Function};
+ghost use Rattle.lr_objects.specs.Function.{function_word, arguments_of, begins};
+
 /// The functions of the server, without their arguments.
 #[derive(Clone, Copy, Debug, PartialEq, Eq)]
 pub enum Function {
@@ -24,4 +29,63 @@ pub enum Arguments {
     Id,
     /// The id of a permit and a lease.
     IdAndLease,
+}
+
+impl Function {
+    /// All functions.
+    pub const ALL: [Function; 4] = [
+        Function::LockTry,
+        Function::LockUnlock,
+        Function::LockRenew,
+        Function::LockForce,
+    ];
+
+    /// The word of the function.
+    pub fn word(self) -> &'static [u8]
+        ensures { result.now ≡ function_word self }
+    {
+        match self {
+            Function::LockTry => b"lock_try",
+            Function::LockUnlock => b"lock_unlock",
+            Function::LockRenew => b"lock_renew",
+            Function::LockForce => b"lock_force",
+        }
+    }
+
+    /// The function with this word: `None` exactly where no function has it.
+    pub fn of_word(word: &[u8]) -> Option<Function>
+        ensures some { IfSome result (λ function. word.now ≡ function_word function) }
+        ensures none { IsNone result → (function : Function) → word.now ≢ function_word function }
+    {
+        Function::search(word)
+    }
+
+    fn search(word: &[u8]) -> Option<Function>
+        ensures { result ≡ with_word function_word Self.ALL word.now }
+    {
+        Function::ALL
+            .iter()
+            .copied()
+            .find(|function| function.word() == word)
+    }
+
+    /// What the function is given beside the object and its owner.
+    pub fn arguments(self) -> Arguments
+        ensures { result ≡ arguments_of self }
+    {
+        match self {
+            Function::LockTry | Function::LockUnlock | Function::LockRenew => Arguments::Lease,
+            Function::LockForce => Arguments::Nothing,
+        }
+    }
+
+    /// Whether a request may begin with the function.
+    pub fn begins(self) -> bool
+        ensures { result ≡ begins self }
+    {
+        match self {
+            Function::LockTry | Function::LockUnlock => true,
+            Function::LockRenew | Function::LockForce => false,
+        }
+    }
 }

@@ -1,6 +1,12 @@
-use lr_names::{Name, Owner};
+ghost use Rattle.std.specs.Prelude.{◌≡◌};
+ghost use Rattle.lr_names.specs.Name.{IsName};
+ghost use Rattle.lr_names.specs.Owner.{IsOwner};
+ghost use Rattle.lr_objects.specs.Op.{IsCall, kind_of, name_of, channel_of};
 
-/// A call of a function on one object. Leases are in milliseconds, and the function tests their range.
+use lr_names::{Channel, Kind, Name, Owner};
+
+/// A call of a function on one object. Leases are in milliseconds, and the function tests their
+/// range.
 #[derive(Clone, Copy, PartialEq, Eq)]
 pub enum Op {
     /// Take the lock, or take it once more, for this lease from now on.
@@ -35,4 +41,57 @@ pub enum Op {
         /// The lock.
         name: Name,
     },
+}
+
+impl Op {
+    /// The kind of the object.
+    pub fn kind(&self) -> Kind
+        ensures { result ≡ kind_of self.now }
+    {
+        match self {
+            Op::LockTry { .. }
+            | Op::LockUnlock { .. }
+            | Op::LockRenew { .. }
+            | Op::LockForce { .. } => Kind::Mutex,
+        }
+    }
+
+    /// The name of the object.
+    pub fn name(&self) -> &Name
+        ensures value { result.now ≡ name_of self.now }
+        ensures call { IsCall self.now }
+    {
+        match self {
+            Op::LockTry { name, owner, .. }
+            | Op::LockUnlock { name, owner, .. }
+            | Op::LockRenew { name, owner, .. } => owned(name, owner),
+            Op::LockForce { name } => named(name),
+        }
+    }
+
+    /// The channel on which the one who made the call waits.
+    pub fn channel(&self) -> Channel
+        ensures { result ≡ channel_of self.now }
+    {
+        Channel::of(self.kind(), self.name())
+    }
+}
+
+// The name, with what its type says of it.
+fn named(name: &Name) -> &Name
+    ensures value { result.now ≡ name.now }
+    ensures name { IsName name.now }
+{
+    let _text = name.as_slice();
+    name
+}
+
+// The name, with what the types of a name and an owner say of them.
+fn owned<'a>(name: &'a Name, owner: &Owner) -> &'a Name
+    ensures value { result.now ≡ name.now }
+    ensures name { IsName name.now }
+    ensures owner { IsOwner owner.now }
+{
+    let _client = owner.client();
+    named(name)
 }

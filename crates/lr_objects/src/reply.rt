@@ -1,5 +1,5 @@
-ghost use Rattle.std.specs.Prelude.{◌≡◌, ℕ, ◌≤◌, ◌<◌, ◌^◌};
-ghost use Rattle.lr_objects.specs.Reply.{blocks};
+ghost use Rattle.std.specs.Prelude.{◌≡◌, ◌≤◌, ◌<◌, ◌^◌, length};
+ghost use Rattle.lr_objects.specs.Reply.{blocks, reply_word, reply_number};
 
 use crate::function::Function;
 use std::marker::Model;
@@ -66,6 +66,35 @@ pub enum Reply {
 }
 
 impl Reply {
+    /// The word of the reply.
+    pub fn word(&self) -> &'static [u8]
+        ensures word { result.now ≡ reply_word self.now }
+        ensures short { length result.now ≤ 12 }
+    {
+        match self {
+            Reply::Granted => b"granted",
+            Reply::Busy(_) => b"busy",
+            Reply::Kept => b"kept",
+            Reply::Freed => b"freed",
+            Reply::NotHeld => b"not-held",
+            Reply::Renewed => b"renewed",
+            Reply::Lost => b"lost",
+            Reply::TooDeep => b"too-deep",
+            Reply::BadLease => b"bad-lease",
+        }
+    }
+
+    /// The number that the reply tells besides: of a busy object, for how many milliseconds it
+    /// stays busy at most.
+    pub fn number(&self) -> Option<u64>
+        ensures { result ≡ reply_number self.now }
+    {
+        match self {
+            Reply::Busy(remaining) => Some(remaining.millis()),
+            _ => None,
+        }
+    }
+
     /// Whether the one who asked has to wait for the object.
     pub fn blocks(&self, _function: Function) -> bool
         ensures { result ≡ blocks self.now _function }

@@ -39,7 +39,8 @@ pub enum Mode {
     Long,
 }
 
-/// What a thread wants of an object. Parts that the function doesn't use are `For(0)`, 0 and the nil id.
+/// What a thread wants of an object. Parts that the function doesn't use are `For(0)`, 0 and the
+/// nil id.
 #[derive(Clone, Copy, PartialEq, Eq)]
 pub struct Want {
     /// The function.
@@ -55,8 +56,8 @@ pub struct Want {
 }
 
 impl Want {
-    /// The call that this want is, by an owner, with a lease in milliseconds. `queue` tells whether a fair
-    /// try may take a place in the queue.
+    /// The call that this want is, by an owner, with a lease in milliseconds. `queue` tells whether
+    /// a fair try may take a place in the queue.
     pub fn op(&self, owner: &Owner, lease: u64, queue: bool) -> Op
         ensures { result ≡ op_of self.now owner.now lease queue }
     {

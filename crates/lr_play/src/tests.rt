@@ -1,0 +1,224 @@
+use crate::play_top;
+use lr_outside::{MemSink, MemSource, Status};
+use lr_text::Text;
+use std::alloc::{AllocError, Global};
+use std::test::Fail;
+
+// A run of `play` on these pieces of input, where these reads and writes fail.
+#[derive(Clone, Copy)]
+struct Run {
+    pieces: &'static [&'static [u8]],
+    reads: &'static [u64],
+    writes: &'static [u64],
+    output: &'static [u8],
+    status: Status,
+}
+
+const RUNS: [Run; 8] = [
+    Run {
+        pieces: &[],
+        reads: &[],
+        writes: &[],
+        output: b"",
+        status: Status::Done,
+    },
+    Run {
+        pieces: &[b"begin 1 1 once lock_try a!\nask 1 1\n"],
+        reads: &[],
+        writes: &[],
+        output: b"bad line 1\n",
+        status: Status::BadLine(1),
+    },
+    Run {
+        pieces: &[b"begin 65 1 once lock_try a 1\n"],
+        reads: &[],
+        writes: &[],
+        output: b"too many 1\n",
+        status: Status::TooMany(1),
+    },
+    Run {
+        pieces: &[b"begin 65 1 once lock_try a!\n"],
+        reads: &[],
+        writes: &[],
+        output: b"bad line 1\n",
+        status: Status::BadLine(1),
+    },
+    Run {
+        pieces: &[b"tick 5\n"],
+        reads: &[2],
+        writes: &[],
+        output: b"1 moment 5\n",
+        status: Status::ReadFault,
+    },
+    Run {
+        pieces: &[b"tick 5\n"],
+        reads: &[],
+        writes: &[1],
+        output: b"",
+        status: Status::WriteFault,
+    },
+    Run {
+        pieces: &[b"tick", b" 7\nask 1", b" 1"],
+        reads: &[],
+        writes: &[],
+        output: b"1 moment 7\n2 no idle\n",
+        status: Status::Done,
+    },
+    Run {
+        pieces: &[b"begin 1 1 once lock_try a 5\nbegin 1 1 once lock_try a 5\ntake 1 1"],
+        reads: &[],
+        writes: &[],
+        output: b"1 fresh\n2 no fresh\n3 no fresh\n",
+        status: Status::Done,
+    },
+];
+
+// A step of a story: one line and what is shown of it, or the four lines of a whole request of a client's first thread,
+// with what its call shows and the reply that is taken.
+#[derive(Clone, Copy)]
+enum Step {
+    Line(&'static str, &'static str),
+    Do(u32, &'static str, &'static str, &'static str),
+}
+
+const LOCKS: [Step; 24] = [
+    Step::Do(1, "lock_try a 30000", "granted", "granted"),
+    Step::Do(1, "lock_try a 30000", "granted", "granted"),
+    Step::Do(1, "lock_unlock a 30000", "kept", "kept"),
+    Step::Do(1, "lock_unlock a 30000", "freed post ch:lock:a 0", "freed"),
+    Step::Do(1, "lock_unlock a 30000", "not-held", "not-held"),
+    Step::Do(1, "lock_try b 30000", "granted", "granted"),
+    Step::Line("tick 29999", "moment 29999"),
+    Step::Do(2, "lock_try b 5", "busy 1", "busy 1"),
+    Step::Line("tick 30000", "moment 30000"),
+    Step::Do(2, "lock_try b 5", "granted", "granted"),
+    Step::Line("tick 500", "moment 30000"),
+    Step::Do(1, "lock_try c 0", "bad-lease", "bad-lease"),
+    Step::Do(1, "lock_try c 86400000001", "bad-lease", "bad-lease"),
+    Step::Do(1, "lock_try c 86400000000", "granted", "granted"),
+    Step::Do(2, "lock_try c 1", "busy 86400000000", "busy 86400000000"),
+    Step::Do(1, "lock_try d 1000", "granted", "granted"),
+    Step::Line("tick 31000", "moment 31000"),
+    Step::Do(2, "lock_try d 1000", "granted", "granted"),
+    Step::Do(1, "lock_unlock d 30000", "not-held", "not-held"),
+    Step::Do(1, "lock_try e 30000", "granted", "granted"),
+    Step::Line("force e", "freed post ch:lock:e 0"),
+    Step::Line("force e", "not-held"),
+    Step::Do(1, "lock_unlock e 30000", "not-held", "not-held"),
+    Step::Line("take 1 1", "no idle"),
+];
+
+// A schedule and the transcript that is wanted of it.
+#[derive(Drop)]
+struct Script {
+    alloc: Global,
+    input: Vec<u8>,
+    wanted: Vec<u8>,
+    lines: u32,
+}
+
+impl Script {
+    fn new(alloc: Global) -> Self {
+        Script {
+            alloc,
+            input: Vec::new(alloc),
+            wanted: Vec::new(alloc),
+            lines: 0,
+        }
+    }
+
+    fn line(&mut self, text: &str, shown: &str) -> Result<(), AllocError> {
+        self.lines = self.lines.wrapping_add(1);
+        let number = self.lines;
+        self.input.extend_from_slice(text.as_bytes())?;
+        self.input.push(b'\n')?;
+        let line = format!(in self.alloc; "{number} {shown}\n")?;
+        self.wanted.extend_from_slice(line.as_bytes())?;
+        Ok(())
+    }
+
+    fn request(
+        &mut self,
+        client: u32,
+        call: &str,
+        shown: &str,
+        taken: &str,
+    ) -> Result<(), AllocError> {
+        let begin = format!(in self.alloc; "begin {client} 1 once {call}")?;
+        let ask = format!(in self.alloc; "ask {client} 1")?;
+        let exec = format!(in self.alloc; "exec {client} 1")?;
+        let take = format!(in self.alloc; "take {client} 1")?;
+        let done = format!(in self.alloc; "done {taken}")?;
+        self.line(begin.as_str(), "fresh")?;
+        self.line(ask.as_str(), "asked")?;
+        self.line(exec.as_str(), shown)?;
+        self.line(take.as_str(), done.as_str())
+    }
+
+    fn step(&mut self, step: Step) -> Result<(), AllocError> {
+        match step {
+            Step::Line(text, shown) => self.line(text, shown),
+            Step::Do(client, call, shown, taken) => self.request(client, call, shown, taken),
+        }
+    }
+}
+
+fn words(alloc: Global, list: &[&str]) -> Result<Vec<Text>, AllocError> {
+    let mut words = Vec::new(alloc);
+    for word in list {
+        words.push(Text::of(alloc, word.as_bytes())?)?;
+    }
+    Ok(words)
+}
+
+// Whether a run ends as it should, and wrote what it should.
+fn ends_so(alloc: Global, run: Run) -> Result<bool, AllocError> {
+    let words = words(alloc, &["play"])?;
+    let mut source = MemSource::new(run.pieces, run.reads);
+    let mut sink = MemSink::new(alloc, run.writes);
+    let status = play_top(alloc, words.as_slice(), &mut source, &mut sink);
+    Ok(status == run.status && sink.bytes() == run.output)
+}
+
+// Whether a story shows what it should.
+fn is_shown(alloc: Global, steps: &[Step]) -> Result<bool, AllocError> {
+    let mut script = Script::new(alloc);
+    for step in steps {
+        script.step(*step)?;
+    }
+    let words = words(alloc, &["play"])?;
+    let pieces = [script.input.as_slice()];
+    let mut source = MemSource::new(&pieces, &[]);
+    let mut sink = MemSink::new(alloc, &[]);
+    let status = play_top(alloc, words.as_slice(), &mut source, &mut sink);
+    Ok(status == Status::Done && sink.bytes() == script.wanted.as_slice())
+}
+
+// Whether these words are no call of `play`, and nothing is written.
+fn is_refused(alloc: Global, list: &[&str]) -> Result<bool, AllocError> {
+    let words = words(alloc, list)?;
+    let mut source = MemSource::new(&[b"tick 5\n"], &[]);
+    let mut sink = MemSink::new(alloc, &[]);
+    let status = play_top(alloc, words.as_slice(), &mut source, &mut sink);
+    Ok(status == Status::Usage && sink.bytes().is_empty())
+}
+
+#[test]
+fn bytes_to_bytes(rt: HostRuntime) -> Result<(), Fail> {
+    for run in RUNS {
+        assert!(rt; ends_so(rt.alloc(), run)?);
+    }
+    Ok(())
+}
+
+#[test]
+fn other_words_are_refused(rt: HostRuntime) -> Result<(), Fail> {
+    assert!(rt; is_refused(rt.alloc(), &["play", "x"])? && is_refused(rt.alloc(), &[])?);
+    Ok(())
+}
+
+#[test]
+fn locks_with_leases(rt: HostRuntime) -> Result<(), Fail> {
+    assert!(rt; is_shown(rt.alloc(), &LOCKS)?);
+    Ok(())
+}

@@ -10,4 +10,6 @@ returns-in-Some-clause-key_entry_of c =
     let u = c.in-Some.slot.now in
     let w : Slot = record u { value = c.make_room.new.self } in
     ap key_entries_of (c.get_mut.follows.holds w).0
-    ∙ key_entries_of-set_value (bytes_eq c.args.key.now) c.args.slots.now.entries u w (sym c.in-Some.ensures.value) (ap (λ v. record { value = v; expiry = u.expiry }) c.make_room.ensures.value)
+    ∙ key_entries_of-set_value (bytes_eq c.args.key.now) c.args.slots.now.entries u w
+    (sym c.in-Some.ensures.value)
+    (ap (λ v. record { value = v; expiry = u.expiry }) c.make_room.ensures.value)

@@ -11,10 +11,15 @@ use Rattle.lr_keys.proofs.tables.remove_gone.Goals as goal
 
 pub returns-clause-slots : goal.returns-clause-slots
 returns-clause-slots c = λ q.
-    let kept = filter-RetainsPairs _ (λ (e : List ℕ × Slot). is_ahead c.args.moment e.1.expiry) _ (λ k v b w g call. search rules) _ _ c.retain.ensures.filtered in
+    let kept = filter-RetainsPairs _ (λ (e : List ℕ × Slot). is_ahead c.args.moment e.1.expiry) _
+    (λ k v b w g call. search rules) _ _ c.retain.ensures.filtered in
     ap (lookup (bytes_eq q)) kept
-    ∙ lookup-filter-values nat_list_eq_equiv (λ (slot : Slot). is_ahead c.args.moment slot.expiry) q c.args.slots.now.entries c.len-len.ensures.unique
+    ∙ lookup-filter-values nat_list_eq_equiv
+    (λ (slot : Slot). is_ahead c.args.moment slot.expiry) q c.args.slots.now.entries
+    c.len-len.ensures.unique
     ∙ option_filter-live c.args.moment _
 
 pub returns-clause-bound : goal.returns-clause-bound
-returns-clause-bound c = λ q slot at e ahead. subst (λ (n : ℕ). n ≤ e) (sym c.least_expiry.ensures) (least_le _ (bytes_eq q) c.retain.new.self.entries slot e at ahead)
+returns-clause-bound c =
+    λ q slot at e ahead. subst (λ (n : ℕ). n ≤ e) (sym c.least_expiry.ensures)
+    (least_le _ (bytes_eq q) c.retain.new.self.entries slot e at ahead)

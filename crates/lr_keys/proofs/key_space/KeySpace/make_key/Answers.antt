@@ -10,26 +10,36 @@ use Rattle.lr_keys.proofs.SlotLemmas.{IsKeySpace-grown, IsKeySpace-roomier, IsRo
 use Rattle.lr_keys.proofs.key_space.KeySpace.make_key.Goals as goal
 
 pub invariant_of-self : goal.invariant_of-self
-invariant_of-self c = IsKeySpace-roomier c.self.inside (record c.self.inside { slots = c.reserve.new.self }) c.self.invariant refl refl refl c.reserve.ensures.entries c.reserve.ensures.room.0
+invariant_of-self c = IsKeySpace-roomier c.self.inside
+    (record c.self.inside { slots = c.reserve.new.self }) c.self.invariant refl refl refl
+    c.reserve.ensures.entries c.reserve.ensures.room.0
 
 -- the fields after the call
 abbrev after : goal.After-insert_slot → Inside
 after c = record c.self.inside { slots = c.insert_slot.new.slots }
 
-sets : (c : goal.After-insert_slot) (q : List ℕ) → get bytes_eq (after c).slots q ≡ with_key c.args.key.now (Some (new_slot c.args.value)) (get bytes_eq c.self.inside.slots) q
-sets c q = c.insert_slot.ensures.slots q ∙ ap (λ es. with_key c.args.key.now (Some (new_slot c.args.value)) (λ k. lookup (bytes_eq k) es) q) c.reserve.ensures.entries
+sets : (c : goal.After-insert_slot) (q : List ℕ)
+    → get bytes_eq (after c).slots q
+    ≡ with_key c.args.key.now (Some (new_slot c.args.value)) (get bytes_eq c.self.inside.slots) q
+sets c q = c.insert_slot.ensures.slots q
+    ∙ ap (λ es. with_key c.args.key.now (Some (new_slot c.args.value))
+    (λ k. lookup (bytes_eq k) es) q) c.reserve.ensures.entries
 
 pub invariant_of-self-2 : goal.invariant_of-self-2
 invariant_of-self-2 c =
     let inside = c.self.inside in
-    let live = subst (λ (m : ℕ). IsLive m (key_entry_of (new_slot c.args.value))) (sym (ap (λ k. k.moment) c.self.view_is)) c.requires.live in
-    IsKeySpace-grown inside (after c) c.args.key.now (new_slot c.args.value) false c.self.invariant refl refl (sets c) (λ q. refl)
+    let live = subst (λ (m : ℕ). IsLive m (key_entry_of (new_slot c.args.value)))
+    (sym (ap (λ k. k.moment) c.self.view_is)) c.requires.live in
+    IsKeySpace-grown inside (after c) c.args.key.now
+    (new_slot c.args.value) false c.self.invariant refl refl (sets c) (λ q. refl)
     (omega (arith, c.in_ok-reserve.ensures.ok, c.insert_slot.ensures.room))
     (IsLiveSlot-new inside.moment inside.least_expiry c.args.value live)
     (λ unspent kind room. IsRoomFor-any (new_slot c.args.value) c.requires.room kind)
 
 pub returns-clause-entry : goal.returns-clause-entry
-returns-clause-entry c = entry_at-set c.self.inside (after c) c.args.self.now c.args.key.now (Some (new_slot c.args.value)) c.self.view_is (sets c)
+returns-clause-entry c =
+    entry_at-set c.self.inside (after c) c.args.self.now c.args.key.now
+    (Some (new_slot c.args.value)) c.self.view_is (sets c)
 
 pub returns-clause-prepared : goal.returns-clause-prepared
 returns-clause-prepared c = plan_at-same c.self.inside (after c) c.args.self.now c.self.view_is refl

@@ -4,7 +4,12 @@ use Rattle.lr_keys.proofs.key_space.KeySpace.new.Goals as goal
 
 -- the fields of the new key space
 abbrev made : goal.In_ok-with_capacity → Inside
-made c = record { moment = 0; least_expiry = 18446744073709551615; slots = c.new.result; spares = c.in_ok-with_capacity.field-0 }
+made c = record {
+  moment = 0;
+  least_expiry = 18446744073709551615;
+  slots = c.new.result;
+  spares = c.in_ok-with_capacity.field-0;
+}
 
 pub returns-clause-none : goal.returns-clause-none
 returns-clause-none c = entry_at-empty (made c) c.new.ensures.empty

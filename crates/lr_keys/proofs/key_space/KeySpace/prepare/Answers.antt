@@ -9,22 +9,27 @@ use Rattle.lr_keys.proofs.SlotLemmas.{IsKeySpace-prepared, IsKeySpace-roomier, I
 use Rattle.lr_keys.proofs.key_space.KeySpace.prepare.Goals as goal
 
 pub invariant_of-self : goal.invariant_of-self
-invariant_of-self c = IsKeySpace-roomier c.self.inside (record c.self.inside { slots = c.reserve.new.self }) c.self.invariant refl refl refl c.reserve.ensures.entries c.reserve.ensures.room.0
+invariant_of-self c = IsKeySpace-roomier c.self.inside
+    (record c.self.inside { slots = c.reserve.new.self }) c.self.invariant refl refl refl
+    c.reserve.ensures.entries c.reserve.ensures.room.0
 
 pub invariant_of-self-in_err-make_room : goal.invariant_of-self-in_err-make_room
 invariant_of-self-in_err-make_room c =
     let inside = c.self.inside in
     let reserved : Inside = record inside { slots = c.reserve.new.self } in
     IsKeySpace-KeepsSlot reserved (record inside { slots = c.make_room.new.slots })
-    (IsKeySpace-roomier inside reserved c.self.invariant refl refl refl c.reserve.ensures.entries c.reserve.ensures.room.0)
+    (IsKeySpace-roomier inside reserved c.self.invariant refl refl refl c.reserve.ensures.entries
+    c.reserve.ensures.room.0)
     refl refl refl c.make_room.ensures.kept c.make_room.ensures.spare
 
 pub invariant_of-self-in_err-insert : goal.invariant_of-self-in_err-insert
 invariant_of-self-in_err-insert c =
     let inside = c.self.inside in
     let reserved : Inside = record inside { slots = c.reserve.new.self } in
-    IsKeySpace-KeepsSlot reserved (record inside { slots = c.make_room.new.slots; spares = c.insert.new.self })
-    (IsKeySpace-roomier inside reserved c.self.invariant refl refl refl c.reserve.ensures.entries c.reserve.ensures.room.0)
+    IsKeySpace-KeepsSlot reserved
+    (record inside { slots = c.make_room.new.slots; spares = c.insert.new.self })
+    (IsKeySpace-roomier inside reserved c.self.invariant refl refl refl c.reserve.ensures.entries
+    c.reserve.ensures.room.0)
     refl refl c.in_err-insert.ensures.err c.make_room.ensures.kept c.make_room.ensures.spare
 
 pub invariant_of-self-2 : goal.invariant_of-self-2
@@ -32,28 +37,51 @@ invariant_of-self-2 c =
     let inside = c.self.inside in
     let reserved : Inside = record inside { slots = c.reserve.new.self } in
     let roomier : Inside = record inside { slots = c.make_room.new.slots } in
-    let after : Inside = record inside { slots = c.make_room.new.slots; spares = c.insert.new.self } in
+    let after : Inside = record inside {
+      slots = c.make_room.new.slots;
+      spares = c.insert.new.self;
+    } in
     let p = c.in_ok-spare.spare in
     let kept = IsKeySpace-KeepsSlot reserved roomier
-    (IsKeySpace-roomier inside reserved c.self.invariant refl refl refl c.reserve.ensures.entries c.reserve.ensures.room.0)
+    (IsKeySpace-roomier inside reserved c.self.invariant refl refl refl c.reserve.ensures.entries
+    c.reserve.ensures.room.0)
     refl refl refl c.make_room.ensures.kept c.make_room.ensures.spare in
     let ready : IsReadySpare (get bytes_eq c.make_room.new.slots c.args.key.now) p = record {
       empty = c.in_ok-spare.ensures.empty;
       spare = c.in_ok-spare.ensures.room;
-      room = subst (IsRoomFor (get bytes_eq c.make_room.new.slots c.args.key.now)) (sym c.in_ok-spare.ensures.kind) c.in_ok-make_room.ensures.room;
+      room = subst (IsRoomFor (get bytes_eq c.make_room.new.slots c.args.key.now))
+          (sym c.in_ok-spare.ensures.kind) c.in_ok-make_room.ensures.room;
     } in
-    IsKeySpace-prepared roomier after c.args.key.now p kept refl refl refl c.in_ok-insert.ensures.updates.0
-    (omega (arith, c.in_ok-reserve.ensures.ok, c.make_room.ensures.spare, c.in_ok-insert.ensures.len, one_at_most))
+    IsKeySpace-prepared roomier after c.args.key.now p kept refl refl refl
+    c.in_ok-insert.ensures.updates.0
+    (omega (
+      arith,
+      c.in_ok-reserve.ensures.ok,
+      c.make_room.ensures.spare,
+      c.in_ok-insert.ensures.len,
+      one_at_most,
+    ))
     ready
 
 pub returns-clause-prepared : goal.returns-clause-prepared
 returns-clause-prepared c =
     let inside = c.self.inside in
-    let after : Inside = record inside { slots = c.make_room.new.slots; spares = c.insert.new.self } in
+    let after : Inside = record inside {
+      slots = c.make_room.new.slots;
+      spares = c.insert.new.self;
+    } in
     let old = c.args.self.now in
-    plan_at-set inside after old c.args.key.now (Some c.in_ok-spare.spare) c.self.view_is c.in_ok-insert.ensures.updates.0
-    ∙ ap (λ k. with_key {X = Plan} c.args.key.now (Some (record { kind = k; member = c.in_ok-spare.spare.member })) (plan_at old)) c.in_ok-spare.ensures.kind
-    ∙ ap (λ m. with_key {X = Plan} c.args.key.now (Some (record { kind = c.args.kind; member = m })) (plan_at old)) c.in_ok-spare.ensures.member
+    plan_at-set inside after old c.args.key.now
+    (Some c.in_ok-spare.spare) c.self.view_is c.in_ok-insert.ensures.updates.0
+    ∙ ap (λ k. with_key {X = Plan} c.args.key.now
+    (Some (record { kind = k; member = c.in_ok-spare.spare.member })) (plan_at old))
+    c.in_ok-spare.ensures.kind
+    ∙ ap (λ m. with_key {X = Plan} c.args.key.now (Some (record { kind = c.args.kind; member = m }))
+    (plan_at old)) c.in_ok-spare.ensures.member
 
 pub returns-clause-entries : goal.returns-clause-entries
-returns-clause-entries c = entry_at-same c.self.inside (record c.self.inside { slots = c.make_room.new.slots; spares = c.insert.new.self }) c.args.self.now c.self.view_is (c.make_room.ensures.key_entry_of ∙ ap key_entries_of c.reserve.ensures.entries)
+returns-clause-entries c =
+    entry_at-same c.self.inside
+    (record c.self.inside { slots = c.make_room.new.slots; spares = c.insert.new.self })
+    c.args.self.now c.self.view_is (c.make_room.ensures.key_entry_of
+    ∙ ap key_entries_of c.reserve.ensures.entries)

@@ -11,8 +11,10 @@ use Rattle.lr_keys.proofs.key_space.KeySpace.remove_field.Goals as goal
 
 pub unwrap-slot-requires : goal.unwrap-slot-requires
 unwrap-slot-requires c =
-    let shows = entry_at-read c.self.inside c.args.self.now c.args.key.now (get bytes_eq c.self.inside.slots c.args.key.now) c.self.view_is refl in
-    IsSome-lent c.get_mut.result _ c.get_mut.ensures.value (IsSome-slot c.args.self.now c.args.key.now c.args.field.now _ shows c.requires)
+    let shows = entry_at-read c.self.inside c.args.self.now c.args.key.now
+    (get bytes_eq c.self.inside.slots c.args.key.now) c.self.view_is refl in
+    IsSome-lent c.get_mut.result _ c.get_mut.ensures.value
+    (IsSome-slot c.args.self.now c.args.key.now c.args.field.now _ shows c.requires)
 
 -- the slot without the field, what the key has then, and the fields after the call
 abbrev slot_without : goal.After-remove_if → Slot
@@ -24,29 +26,38 @@ left c = if c.remove_field-emptied.result then None else Some (slot_without c)
 abbrev after : goal.After-remove_if → Inside
 after c = record c.self.inside { slots = c.remove_if.new.table }
 
-found : (c : goal.After-remove_if) → Some c.unwrap-slot.result.now ≡ get bytes_eq c.self.inside.slots c.args.key.now
+found : (c : goal.After-remove_if)
+    → Some c.unwrap-slot.result.now ≡ get bytes_eq c.self.inside.slots c.args.key.now
 found c = sym (ap option_copied_mut c.unwrap-slot.ensures) ∙ c.get_mut.ensures.value
 
-sets : (c : goal.After-remove_if) (q : List ℕ) → get bytes_eq (after c).slots q ≡ with_key c.args.key.now (left c) (get bytes_eq c.self.inside.slots) q
+sets : (c : goal.After-remove_if) (q : List ℕ)
+    → get bytes_eq (after c).slots q
+    ≡ with_key c.args.key.now (left c) (get bytes_eq c.self.inside.slots) q
 sets c =
-    let writes = sets_written c.self.inside.slots _ c.args.key.now c.unwrap-slot.result.now (slot_without c) (found c) (c.get_mut.follows.holds (slot_without c)) in
-    sets_then_gone (get bytes_eq c.self.inside.slots) _ (get bytes_eq (after c).slots) c.args.key.now (slot_without c) c.remove_field-emptied.result writes c.remove_if.ensures.table
+    let writes = sets_written c.self.inside.slots _ c.args.key.now c.unwrap-slot.result.now
+    (slot_without c) (found c) (c.get_mut.follows.holds (slot_without c)) in
+    sets_then_gone (get bytes_eq c.self.inside.slots) _
+    (get bytes_eq (after c).slots) c.args.key.now
+    (slot_without c) c.remove_field-emptied.result writes c.remove_if.ensures.table
 
 pub invariant_of-self : goal.invariant_of-self
 invariant_of-self c =
     let inside = c.self.inside in
     let u = c.unwrap-slot.result.now in
     let removed = c.remove_field-emptied.ensures in
-    IsKeySpace-set inside (after c) c.args.key.now (left c) c.self.invariant refl (omega arith) refl (sets c)
+    IsKeySpace-set inside (after c) c.args.key.now (left c) c.self.invariant refl (omega arith) refl
+    (sets c)
     (omega (arith, (c.get_mut.follows.holds (slot_without c)).6, c.remove_if.ensures.room))
-    (IsLiveSlot-without_field inside.moment inside.least_expiry u _ c.args.field.now _ (c.self.invariant.slots c.args.key.now u (sym (found c))) removed.empty removed.value)
+    (IsLiveSlot-without_field inside.moment inside.least_expiry u _ c.args.field.now _
+    (c.self.invariant.slots c.args.key.now u (sym (found c))) removed.empty removed.value)
     (IsRoomFor-without_field _ u (slot_without c) _ (found c) removed.room)
 
 pub returns-clause-entry : goal.returns-clause-entry
 returns-clause-entry c =
     let u = c.unwrap-slot.result.now in
     let removed = c.remove_field-emptied.ensures in
-    entry_at-changed c.self.inside (after c) c.args.self.now c.args.key.now (Some u) (left c) (entry_without_field c.args.field.now) c.self.view_is (found c) (sets c)
+    entry_at-changed c.self.inside (after c) c.args.self.now c.args.key.now (Some u) (left c)
+    (entry_without_field c.args.field.now) c.self.view_is (found c) (sets c)
     (key_entry_of-without_field u _ c.args.field.now _ removed.empty removed.value)
 
 pub returns-clause-prepared : goal.returns-clause-prepared

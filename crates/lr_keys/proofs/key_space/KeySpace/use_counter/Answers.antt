@@ -11,7 +11,8 @@ use Rattle.lr_keys.proofs.SlotLemmas.{IsKeySpace-grown, IsLive-counter, IsSome-p
 use Rattle.lr_keys.proofs.key_space.KeySpace.use_counter.Goals as goal
 
 pub drop_spare-requires : goal.drop_spare-requires
-drop_spare-requires c = IsSome-planned c.self.inside c.args.self.now c.args.key.now [] CounterKind c.self.view_is c.requires.prepared
+drop_spare-requires c = IsSome-planned c.self.inside c.args.self.now c.args.key.now [] CounterKind
+    c.self.view_is c.requires.prepared
 
 -- the slot and the fields after the call
 abbrev slot_after : goal.After-insert_slot → Slot
@@ -23,15 +24,23 @@ after c = record c.self.inside { slots = c.insert_slot.new.slots; spares = c.dro
 pub invariant_of-self : goal.invariant_of-self
 invariant_of-self c =
     let inside = c.self.inside in
-    IsKeySpace-grown inside (after c) c.args.key.now (slot_after c) true c.self.invariant refl refl c.insert_slot.ensures.slots c.drop_spare.ensures.spares
+    IsKeySpace-grown inside (after c) c.args.key.now
+    (slot_after c) true c.self.invariant refl refl c.insert_slot.ensures.slots
+    c.drop_spare.ensures.spares
     (omega (arith, c.self.invariant.room, c.drop_spare.ensures.fewer, c.insert_slot.ensures.room))
-    (IsLiveSlot-new inside.moment inside.least_expiry (slot_after c).value (IsLive-counter inside.moment _))
+    (IsLiveSlot-new inside.moment inside.least_expiry (slot_after c).value
+    (IsLive-counter inside.moment _))
     (λ unspent kind room. absurd (cc unspent))
 
 pub returns-clause-entry : goal.returns-clause-entry
 returns-clause-entry c =
-    entry_at-set c.self.inside (after c) c.args.self.now c.args.key.now (Some (slot_after c)) c.self.view_is c.insert_slot.ensures.slots
-    ∙ ap (λ n. with_key {X = KeyEntry} c.args.key.now (Some (record { value = Number n; expiry = None })) (entry_at c.args.self.now)) (to_z-of_z w64 c.args.number c.ranges.number)
+    entry_at-set c.self.inside (after c) c.args.self.now c.args.key.now
+    (Some (slot_after c)) c.self.view_is c.insert_slot.ensures.slots
+    ∙ ap (λ n. with_key {X = KeyEntry} c.args.key.now
+    (Some (record { value = Number n; expiry = None })) (entry_at c.args.self.now))
+    (to_z-of_z w64 c.args.number c.ranges.number)
 
 pub returns-clause-prepared : goal.returns-clause-prepared
-returns-clause-prepared c = plan_at-spent c.self.inside (after c) c.args.self.now c.args.key.now true c.self.view_is c.drop_spare.ensures.spares
+returns-clause-prepared c =
+    plan_at-spent c.self.inside
+    (after c) c.args.self.now c.args.key.now true c.self.view_is c.drop_spare.ensures.spares

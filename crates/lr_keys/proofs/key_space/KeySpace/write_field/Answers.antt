@@ -19,48 +19,67 @@ abbrev after : goal.After-self-1 → Inside
 after c = record c.self.inside { slots = c.get_mut.follows.lender (slot_after c) }
 
 -- the slot that the key has before the call
-found : (c : goal.After-self-1) → Some c.unwrap-slot.result.now ≡ get bytes_eq c.self.inside.slots c.args.key.now
+found : (c : goal.After-self-1)
+    → Some c.unwrap-slot.result.now ≡ get bytes_eq c.self.inside.slots c.args.key.now
 found c = sym (ap option_copied_mut c.unwrap-slot.ensures) ∙ c.get_mut.ensures.value
 
 -- it has the field
-there : (c : goal.After-self-1) → IsTrue (is_there (field_at c.args.field.now (Some (key_entry_of c.unwrap-slot.result.now))))
+there : (c : goal.After-self-1)
+    → IsTrue (is_there (field_at c.args.field.now (Some (key_entry_of c.unwrap-slot.result.now))))
 there c =
-    let shows = entry_at-read c.self.inside c.args.self.now c.args.key.now (Some c.unwrap-slot.result.now) c.self.view_is (found c) in
-    subst (λ (e : Option KeyEntry). IsTrue (is_there (field_at c.args.field.now e))) shows c.requires
+    let shows = entry_at-read c.self.inside c.args.self.now c.args.key.now
+    (Some c.unwrap-slot.result.now) c.self.view_is (found c) in
+    subst (λ (e : Option KeyEntry). IsTrue (is_there (field_at c.args.field.now e))) shows
+    c.requires
 
-sets : (c : goal.After-self-1) (q : List ℕ) → get bytes_eq (after c).slots q ≡ with_key c.args.key.now (Some (slot_after c)) (get bytes_eq c.self.inside.slots) q
-sets c = sets_written c.self.inside.slots _ c.args.key.now c.unwrap-slot.result.now (slot_after c) (found c) (c.get_mut.follows.holds (slot_after c))
+sets : (c : goal.After-self-1) (q : List ℕ)
+    → get bytes_eq (after c).slots q
+    ≡ with_key c.args.key.now (Some (slot_after c)) (get bytes_eq c.self.inside.slots) q
+sets c = sets_written c.self.inside.slots _ c.args.key.now c.unwrap-slot.result.now (slot_after c)
+    (found c) (c.get_mut.follows.holds (slot_after c))
 
-wrote : (c : goal.After-self-1) → content_of c.write_field.new.self ≡ content_with_field c.args.field.now c.args.number (content_of c.unwrap-slot.result.now.value)
-wrote c = c.write_field.ensures.value ∙ ap (λ z. content_with_field c.args.field.now z (content_of c.unwrap-slot.result.now.value)) (to_z-of_z w64 c.args.number c.ranges.number)
+wrote : (c : goal.After-self-1)
+    → content_of c.write_field.new.self
+    ≡ content_with_field c.args.field.now c.args.number (content_of c.unwrap-slot.result.now.value)
+wrote c = c.write_field.ensures.value
+    ∙ ap (λ z. content_with_field c.args.field.now z (content_of c.unwrap-slot.result.now.value))
+    (to_z-of_z w64 c.args.number c.ranges.number)
 
 pub unwrap-slot-requires : goal.unwrap-slot-requires
 unwrap-slot-requires c =
-    let shows = entry_at-read c.self.inside c.args.self.now c.args.key.now (get bytes_eq c.self.inside.slots c.args.key.now) c.self.view_is refl in
-    IsSome-lent c.get_mut.result _ c.get_mut.ensures.value (IsSome-slot c.args.self.now c.args.key.now c.args.field.now _ shows c.requires)
+    let shows = entry_at-read c.self.inside c.args.self.now c.args.key.now
+    (get bytes_eq c.self.inside.slots c.args.key.now) c.self.view_is refl in
+    IsSome-lent c.get_mut.result _ c.get_mut.ensures.value
+    (IsSome-slot c.args.self.now c.args.key.now c.args.field.now _ shows c.requires)
 
 pub write_field-requires : goal.write_field-requires
 write_field-requires c =
     let found = sym (ap option_copied_mut c.unwrap-slot.ensures) ∙ c.get_mut.ensures.value in
-    let shows = entry_at-read c.self.inside c.args.self.now c.args.key.now (Some c.unwrap-slot.result.now) c.self.view_is found in
-    subst (λ (e : Option KeyEntry). IsTrue (is_there (field_at c.args.field.now e))) shows c.requires
+    let shows = entry_at-read c.self.inside c.args.self.now c.args.key.now
+    (Some c.unwrap-slot.result.now) c.self.view_is found in
+    subst (λ (e : Option KeyEntry). IsTrue (is_there (field_at c.args.field.now e))) shows
+    c.requires
 
 pub invariant_of-self : goal.invariant_of-self
 invariant_of-self c =
     let inside = c.self.inside in
     let u = c.unwrap-slot.result.now in
     let sound = c.self.invariant.slots c.args.key.now u (sym (found c)) in
-    IsKeySpace-set inside (after c) c.args.key.now (Some (slot_after c)) c.self.invariant refl (omega arith) refl (sets c)
+    IsKeySpace-set inside (after c) c.args.key.now (Some (slot_after c)) c.self.invariant refl
+    (omega arith) refl (sets c)
     (omega (arith, (c.get_mut.follows.holds (slot_after c)).6))
     (ForSome-some (IsLiveSlot inside.moment inside.least_expiry) (slot_after c)
-    (IsLiveSlot-with_field inside.moment inside.least_expiry u c.write_field.new.self c.args.field.now c.args.number sound (wrote c)
+    (IsLiveSlot-with_field inside.moment inside.least_expiry u c.write_field.new.self
+    c.args.field.now c.args.number sound (wrote c)
     (few_there inside.moment u c.args.field.now c.args.number sound.live (there c))))
     (IsRoomFor-some _ u (slot_after c) (found c) c.write_field.ensures.room)
 
 pub returns-clause-entry : goal.returns-clause-entry
 returns-clause-entry c =
     let u = c.unwrap-slot.result.now in
-    entry_at-changed c.self.inside (after c) c.args.self.now c.args.key.now (Some u) (Some (slot_after c)) (λ e. Some (entry_with_field c.args.field.now c.args.number e)) c.self.view_is (found c) (sets c)
+    entry_at-changed c.self.inside (after c) c.args.self.now c.args.key.now (Some u)
+    (Some (slot_after c)) (λ e. Some (entry_with_field c.args.field.now c.args.number e))
+    c.self.view_is (found c) (sets c)
     (ap (λ v. Some (record { value = v; expiry = u.expiry })) (wrote c))
 
 pub returns-clause-prepared : goal.returns-clause-prepared

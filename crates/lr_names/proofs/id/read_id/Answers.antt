@@ -3,7 +3,7 @@ use Rattle.std.specs.Result.{result_ok}
 use Rattle.uuid.specs.Text.{parsed}
 use Rattle.uuid.proofs.RoundTrips.{parse_gives}
 use Rattle.lr_names.proofs.OwnerLaws.{parsed-id_text}
-use Rattle.lr_names.proofs.owner.read_id.Goals as goal
+use Rattle.lr_names.proofs.id.read_id.Goals as goal
 
 pub returns-in_err-id-clause-none : goal.returns-in_err-id-clause-none
 returns-in_err-id-clause-none c = λ _ id h is.

@@ -1,0 +1,41 @@
+ghost use Rattle.std.specs.Prelude.{◌≡◌, ◌≢◌, ◌↔◌, ◌<◌, ℕ, List, All, IsTrue, IsNone, IfSome};
+ghost use Rattle.lr_names.specs.Owner.{IsId, id_text};
+
+use uuid::Uuid;
+
+/// The length of an id's text, in bytes.
+pub(crate) const ID_BYTES: usize = 36;
+
+/// Reads the id of a client or a permit, in hyphenated lower-case form: `None` exactly where the
+/// text is that of no id.
+pub fn read_id(text: &[u8]) -> Option<Uuid>
+    ensures text { IfSome result (λ id. text.now ≡ id_text id) }
+    ensures id { IfSome result IsId }
+    ensures none { IsNone result → (id : List ℕ) → IsId id → text.now ≢ id_text id }
+{
+    let id = Uuid::try_parse_ascii(text).ok()?;
+    // Other forms of an id are parsed too.
+    if !is_written(&id, text) {
+        return None;
+    }
+    id_fits(id.as_bytes());
+    Some(id)
+}
+
+fn is_written(id: &Uuid, text: &[u8]) -> bool
+    ensures { IsTrue result ↔ (text.now ≡ id_text id.now) }
+{
+    let mut buffer = [0; ID_BYTES];
+    id.hyphenated().encode_lower(&mut buffer).as_bytes() == text
+}
+
+// What the type of an id says, which no clause can say of an array.
+pub(crate) fn id_fits(id: &[u8; 16])
+    ensures { IsId id.now }
+{
+    bytes_fit(id.as_slice());
+}
+
+fn bytes_fit(bytes: &[u8])
+    ensures { All (λ b. b < 256) bytes.now }
+{}
