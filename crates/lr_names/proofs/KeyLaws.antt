@@ -2,7 +2,7 @@
 use Rattle.std.proofs.Common.{◌≡◌, ℕ, List, IsTrue, refl}
 use Rattle.std.specs.List.{flat_map}
 use Rattle.lr_text.specs.Words.{lacks}
-use Rattle.lr_text.proofs.TableLaws.{IsTable, word_of-injective}
+use Rattle.lr_text.proofs.WordTableLaws.{IsWordTable, word_of-injective}
 use Rattle.lr_text.proofs.WordLaws.{cut-injective}
 use Rattle.lr_names.specs.declared.kind.TheConstants.Kind.{ALL}
 use Rattle.lr_names.specs.declared.part.Part.{Part}
@@ -14,9 +14,9 @@ abbrev all_parts : List Part
 all_parts = flat_map parts_of ALL
 
 -- each part is found by its word: at every one of them by computing
-IsTable-part_word : IsTable part_word all_parts
-IsTable-part_word Lock = refl
-IsTable-part_word _ = refl
+IsWordTable-part_word : IsWordTable part_word all_parts
+IsWordTable-part_word Lock = refl
+IsWordTable-part_word _ = refl
 
 -- no word of a part has a colon
 part_word-lacks : (part : Part) → IsTrue (lacks 58 (part_word part))
@@ -27,4 +27,4 @@ part_word-lacks _ = refl
 pub key_text-injective : (p q : Part) (m n : List ℕ) → key_text p m ≡ key_text q n → (p ≡ q) × (m ≡ n)
 key_text-injective p q m n same =
     let parts = cut-injective 58 (part_word p) (part_word q) m n (part_word-lacks p) (part_word-lacks q) same in
-    (word_of-injective part_word all_parts IsTable-part_word p q parts.0, parts.1)
+    (word_of-injective part_word all_parts IsWordTable-part_word p q parts.0, parts.1)

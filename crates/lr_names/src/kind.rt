@@ -1,5 +1,5 @@
 ghost use Rattle.std.specs.Prelude.{◌≡◌, ◌≢◌, ◌≤◌, length, IsNone, IfSome};
-ghost use Rattle.lr_text.specs.Table.{with_word};
+ghost use Rattle.lr_text.specs.WordTable.{with_word};
 ghost use Rattle.lr_names.specs.declared.kind.Kind.{Kind};
 ghost use Rattle.lr_names.specs.Channel.{kind_word, channel_wakes};
 ghost use Rattle.lr_names.specs.Key.{parts_of};

@@ -1,5 +1,5 @@
 ghost use Rattle.std.specs.Prelude.{◌≡◌, ◌≢◌, IsNone, IfSome};
-ghost use Rattle.lr_text.specs.Table.{with_word};
+ghost use Rattle.lr_text.specs.WordTable.{with_word};
 ghost use Rattle.lr_objects.specs.declared.function.Function.{Function};
 ghost use Rattle.lr_objects.specs.Function.{function_word, arguments_of, begins};
 

@@ -1,3 +1,3 @@
 pub mod NumberLaws
-pub mod TableLaws
 pub mod WordLaws
+pub mod WordTableLaws

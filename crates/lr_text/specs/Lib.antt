@@ -1,3 +1,3 @@
 pub mod ShortText
-pub mod Table
+pub mod WordTable
 pub mod Words

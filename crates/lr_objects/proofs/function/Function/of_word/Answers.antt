@@ -1,7 +1,7 @@
-use Rattle.lr_text.proofs.TableLaws.{with_word-some, with_word-none}
+use Rattle.lr_text.proofs.WordTableLaws.{with_word-some, with_word-none}
 use Rattle.lr_objects.specs.Function.{function_word}
 use Rattle.lr_objects.specs.declared.function.TheConstants.Function.{ALL}
-use Rattle.lr_objects.proofs.FunctionLaws.{IsTable-function_word}
+use Rattle.lr_objects.proofs.FunctionLaws.{IsWordTable-function_word}
 use Rattle.lr_objects.proofs.function.Function.of_word.Goals as goal
 
 pub returns-clause-some : goal.returns-clause-some
@@ -9,4 +9,4 @@ returns-clause-some c = rw c.search.ensures (with_word-some function_word ALL c.
 
 pub returns-clause-none : goal.returns-clause-none
 returns-clause-none c =
-    rw c.search.ensures (with_word-none function_word ALL IsTable-function_word c.args.word.now)
+    rw c.search.ensures (with_word-none function_word ALL IsWordTable-function_word c.args.word.now)
