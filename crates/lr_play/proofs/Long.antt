@@ -7,7 +7,7 @@ use Rattle.lr_text.specs.Words.{joined}
 use Rattle.lr_names.specs.Owner.{id_text}
 use Rattle.lr_names.proofs.OwnerLaws.{length-id_text}
 use Rattle.lr_objects.specs.declared.function.Function.{Function}
-use Rattle.lr_objects.specs.declared.function.Function.TheVariants.{LockTry, LockUnlock, LockRenew, LockForce}
+use Rattle.lr_objects.specs.declared.function.Function.TheVariants.{LockTry}
 use Rattle.lr_objects.specs.declared.function.Arguments.{Arguments}
 use Rattle.lr_objects.specs.declared.function.Arguments.TheVariants as arguments
 use Rattle.lr_objects.specs.declared.want.Lease.{Lease}
@@ -25,9 +25,7 @@ short_number n lt = (length-decimal n lt).1
 
 short_function : (f : Function) → length (function_word f) ≤ 20
 short_function LockTry = omega arith
-short_function LockUnlock = omega arith
-short_function LockRenew = omega arith
-short_function LockForce = omega arith
+short_function _ = omega arith
 
 short_lease : (lease : Lease) → IsMillis lease → length (lease_word lease) ≤ 20
 short_lease lease is = subst (λ l. length (lease_word l) ≤ 20) (sym is.1) (short_number is.0 is.2)
