@@ -1,5 +1,5 @@
 -- The ends of a run, one by one.
-use Rattle.std.proofs.Common.{◌≡◌, ◌⊎◌, inl, inr, ℕ, ◌+◌, ◌<◌, ◌≤◌, List, [], ◌∷◌, ◌++◌, length, get_or, refl, sym, ap, subst, arith}
+use Rattle.std.proofs.Common.{◌≡◌, ◌⊎◌, inl, inr, ℕ, ◌<◌, ◌≤◌, List, [], ◌∷◌, length, get_or, refl, sym, ap, subst, arith}
 use Rattle.lr_outside.specs.Lines.{lines_of}
 use Rattle.lr_outside.specs.Turns.{CountsFaults, Rose}
 use Rattle.lr_outside.proofs.Faults.{CountsFaults-rose}
@@ -18,6 +18,10 @@ pub one_word : (words : List (List ℕ)) (w : List ℕ) → 1 ≤ length words �
 one_word [] w some few is = absurd (omega arith)
 one_word (x ∷ []) w some few is = ap (λ (l : List ℕ). l ∷ []) (sym is)
 one_word (x ∷ y ∷ words) w some few is = absurd (omega arith)
+
+-- two words that are the only one are one
+pub only_word : (words : List (List ℕ)) (w v : List ℕ) → words ≡ w ∷ [] → words ≡ v ∷ [] → w ≡ v
+only_word words w v is same = cc
 
 -- where all lines are events none is refused
 not_stopped : (number : ℕ) (kind : ScheduleLine) (refusal all before held : List ℕ) (events : List Event) → ((event : Event) → kind ≡ kinds.Event event → ⊥) → AreLinesOf 1 (lines_of all) events

@@ -1,5 +1,5 @@
 -- How each turn of the reader of lines, and what was written then, carries a run on or ends it.
-use Rattle.std.proofs.Common.{◌≡◌, ◌⊎◌, inl, inr, ℕ, ◌+◌, ◌<◌, List, [], ◌∷◌, ◌++◌, length, Option, Some, None, refl, sym, ap, ◌∙◌, subst}
+use Rattle.std.proofs.Common.{◌≡◌, inl, inr, ℕ, ◌+◌, ◌<◌, List, [], ◌∷◌, ◌++◌, length, Option, Some, None, refl, sym, ap, ◌∙◌, subst}
 use Rattle.std.specs.Io.KnownBytes.{Appends}
 use Rattle.std.proofs.KnownBytes.{Appends-nil}
 use Rattle.lr_outside.specs.Lines.{lines_of, ahead, WhereKnown, IsTurn, IsUndecided}
@@ -13,7 +13,6 @@ use Rattle.lr_model.specs.declared.schedule_line.ScheduleLine.{ScheduleLine}
 use Rattle.lr_model.specs.declared.schedule_line.ScheduleLine.TheVariants as kinds
 use Rattle.lr_model.specs.Transcript.{IsLine, bad_line, too_many_line}
 use Rattle.lr_model.specs.World.{World}
-use Rattle.lr_play.specs.Ends.{WereRead}
 use Rattle.lr_play.specs.Progress.{Progress, IsAt, Ends, text_of, world_after_line, Told}
 use Rattle.lr_play.proofs.Progress.{Shows, stopped, in_part, ran_through, broke_off, goes_on, was_read}
 

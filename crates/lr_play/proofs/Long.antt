@@ -1,10 +1,9 @@
 -- No event has a text of more than 512 bytes.
-use Rattle.std.proofs.Common.{◌≡◌, ℕ, ◌+◌, ◌<◌, ◌≤◌, ◌^◌, List, [], ◌∷◌, length, decimal, sym, ap, subst, arith}
+use Rattle.std.proofs.Common.{ℕ, ◌+◌, ◌<◌, ◌≤◌, ◌^◌, List, ◌∷◌, length, decimal, sym, ap, subst, arith}
 use Rattle.std.proofs.lemmas.List.{length-append}
 use Rattle.lr_limits.specs.Limits.{line_limit}
 use Rattle.lr_text.proofs.NumberLaws.{length-decimal}
 use Rattle.lr_text.specs.Words.{joined}
-use Rattle.lr_names.specs.Owner.{id_text}
 use Rattle.lr_names.proofs.OwnerLaws.{length-id_text}
 use Rattle.lr_objects.specs.declared.function.Function.{Function}
 use Rattle.lr_objects.specs.declared.function.Function.TheVariants.{LockTry}
@@ -13,7 +12,7 @@ use Rattle.lr_objects.specs.declared.function.Arguments.TheVariants as arguments
 use Rattle.lr_objects.specs.declared.want.Lease.{Lease}
 use Rattle.lr_objects.specs.declared.want.Want.{Want}
 use Rattle.lr_objects.specs.Function.{function_word, arguments_of}
-use Rattle.lr_objects.specs.Want.{mode_word, lease_word, argument_words, want_words}
+use Rattle.lr_objects.specs.Want.{mode_word, lease_word, argument_words}
 use Rattle.lr_model.specs.declared.event.Event.{Event}
 use Rattle.lr_model.specs.declared.event.Event.TheVariants.{Begin, Ask, Exec, Take, Tick, Force}
 use Rattle.lr_model.specs.declared.schedule_line.ScheduleLine.TheVariants as kinds

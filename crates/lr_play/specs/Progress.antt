@@ -62,3 +62,7 @@ Told world number kind old new (Some (TooMany n)) =
 Told world number kind old new (Some WriteFault) = AppendsFront old new (text_of world number kind)
 Told world number kind old new (Some NoMemory) = AppendsFront old new (text_of world number kind)
 Told world number kind old new (Some _) = ⊥
+
+-- the same of a line that is no event, whose text doesn't depend on the world
+abbrev pub ToldAnyhow : ℕ → ScheduleLine → Option (List ℕ) → Option (List ℕ) → Status → Type 0
+ToldAnyhow number kind old new status = (world : World) → Told world number kind old new (Some status)

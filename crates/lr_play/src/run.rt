@@ -4,10 +4,10 @@ ghost use Rattle.lr_limits.specs.Limits.{event_limit};
 ghost use Rattle.lr_outside.specs.Turns.{CountsFaults};
 ghost use Rattle.lr_model.specs.declared.schedule_line.ScheduleLine.TheVariants as kinds;
 ghost use Rattle.lr_model.specs.Within.{IsWithin, MayBegin};
-ghost use Rattle.lr_model.specs.World.{World, first_world, next};
+ghost use Rattle.lr_model.specs.World.{first_world, next};
 ghost use Rattle.lr_world.specs.World.{world_of};
 ghost use Rattle.lr_play.specs.Ends.{WhereTold, EndsSo, IsEndOfRun, is_read_fault, is_write_fault};
-ghost use Rattle.lr_play.specs.Progress.{IsAt, Ends, Told};
+ghost use Rattle.lr_play.specs.Progress.{IsAt, Ends, Told, ToldAnyhow};
 
 use lr_model::{Event, ScheduleLine};
 use lr_outside::{LineReader, LineTurn, Sink, Source, Status, write_whole};
@@ -54,7 +54,7 @@ fn show<K: Sink>(
 // Writes that a line is bad, which ends the run.
 #[tactic(auto, using(crate::proofs::Lines::nothing_told))]
 fn refuse_bad<K: Sink>(out: &mut Text, number: u64, sink: &mut K) -> Status
-    ensures told { (world : World) → Told world number kinds.Bad (K.held sink.old) (K.held sink.new) (Some result) }
+    ensures told { ToldAnyhow number kinds.Bad (K.held sink.old) (K.held sink.new) result }
     ensures counts { CountsFaults (K.faults sink.old) (K.faults sink.new) (is_write_fault result) }
     ensures not_read { is_read_fault result ≡ false }
     ensures no_other { IsEndOfRun result }
@@ -73,7 +73,7 @@ fn refuse_bad<K: Sink>(out: &mut Text, number: u64, sink: &mut K) -> Status
 // Writes that a line is too many, which ends the run.
 #[tactic(auto, using(crate::proofs::Lines::nothing_told))]
 fn refuse_too_many<K: Sink>(out: &mut Text, number: u64, sink: &mut K) -> Status
-    ensures told { (world : World) → Told world number kinds.TooMany (K.held sink.old) (K.held sink.new) (Some result) }
+    ensures told { ToldAnyhow number kinds.TooMany (K.held sink.old) (K.held sink.new) result }
     ensures counts { CountsFaults (K.faults sink.old) (K.faults sink.new) (is_write_fault result) }
     ensures not_read { is_read_fault result ≡ false }
     ensures no_other { IsEndOfRun result }

@@ -44,7 +44,6 @@ returns-in-Bad-clause-ends g c = λ all before at.
     at_line c.args.reader.now.kept c.next.new.self.kept all before (g.S.Source.left c.args.source.now) (g.S.Source.left c.next.new.source) (g.K.Sink.held c.args.sink.now) (g.K.Sink.held c.refuse_bad.new.sink) c.args.number world at
     c.in-Line.line kinds.Bad c.refuse_bad.result turn is (c.refuse_bad.ensures.told world)
 
-
 pub returns-in-TooMany-clause-ends : goal.returns-in-TooMany-clause-ends
 returns-in-TooMany-clause-ends g c = λ all before at.
     let world : World = world_of c.args.world.now in
@@ -52,7 +51,6 @@ returns-in-TooMany-clause-ends g c = λ all before at.
     let is : IsLine c.args.number c.in-Line.line kinds.TooMany = subst (λ (l : List ℕ). IsLine c.args.number l kinds.TooMany) c.as_slice.ensures.value c.in-TooMany.ensures in
     at_line c.args.reader.now.kept c.next.new.self.kept all before (g.S.Source.left c.args.source.now) (g.S.Source.left c.next.new.source) (g.K.Sink.held c.args.sink.now) (g.K.Sink.held c.refuse_too_many.new.sink) c.args.number world at
     c.in-Line.line kinds.TooMany c.refuse_too_many.result turn is (c.refuse_too_many.ensures.told world)
-
 
 pub returns-in-End-clause-ends : goal.returns-in-End-clause-ends
 returns-in-End-clause-ends g c = λ all before at.
@@ -64,7 +62,6 @@ returns-in-TooLong-clause-ends g c = λ all before at.
     let world : World = world_of c.args.world.now in
     at_long c.args.reader.now.kept c.next.new.self.kept all before (g.S.Source.left c.args.source.now) (g.S.Source.left c.next.new.source) (g.K.Sink.held c.args.sink.now) (g.K.Sink.held c.refuse_bad-in-TooLong.new.sink) c.args.number world at
     c.refuse_bad-in-TooLong.result (at_false c.args.reader.now.stuck c.requires.free c.in-TooLong.ensures.turn) (long_is_bad c.args.number) (c.refuse_bad-in-TooLong.ensures.told world)
-
 
 pub returns-in-Fault-clause-ends : goal.returns-in-Fault-clause-ends
 returns-in-Fault-clause-ends g c = λ all before at.

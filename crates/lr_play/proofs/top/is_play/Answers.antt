@@ -1,6 +1,5 @@
 use Rattle.std.proofs.Common.{List, ℕ, [], ◌∷◌, ◌∙◌, ap, arith}
-use Rattle.lr_schedule.proofs.EventLaws.{only_word}
-use Rattle.lr_play.proofs.Ends.{one_word}
+use Rattle.lr_play.proofs.Ends.{one_word, only_word}
 use Rattle.lr_play.proofs.top.is_play.Goals as goal
 
 pub returns-in-len1 : goal.returns-in-len1
