@@ -1,6 +1,11 @@
-pub mod Channels
-pub mod Tables
+pub mod SameChannel
+pub mod Listeners
 pub mod Numbers
+pub mod ConnectionSets
+pub mod Slots
+pub mod Deliveries
 pub mod Boards
-pub mod Rooms
-pub mod Messages
+pub mod Subscriptions
+pub mod SparePlaces
+pub mod Drops
+pub mod Posts

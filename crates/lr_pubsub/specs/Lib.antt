@@ -1,7 +1,7 @@
-pub mod Numbers
+pub mod Connection
+pub mod ConnectionSet
+pub mod ConnectionSlot
 pub mod Subscribers
-pub mod Listed
-pub mod Place
-pub mod Kept
-pub mod Told
-pub mod Fault
+pub mod BoardValue
+pub mod BoardParts
+pub mod Delivery

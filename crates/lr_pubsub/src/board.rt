@@ -1,27 +1,30 @@
-ghost use Rattle.std.specs.Prelude.{◌≡◌, ◌↔◌, ℕ, ◌<◌, ◌≤◌, nat_le, All, None, Some, IsTrue, true, false, not, length, filter, take, slice_get, option_map, if◌then◌else◌, IfOk, OnOk, OnErr, IsOk, vec_len, vec_capacity};
-ghost use Rattle.std.specs.List.{AllPairs, list_any};
+ghost use Rattle.std.specs.Prelude.{◌≡◌, ◌≢◌, ℕ, ◌==◌, ◌↔◌, ◌<◌, nat_le, All, None, Some, IsTrue, true, false, length, take, slice_get, option_map, if◌then◌else◌, IfOk, OnOk, OnErr, IsOk, vec_len};
+ghost use Rattle.std.specs.List.{list_any};
 ghost use Rattle.std.specs.Option.{option_copied};
 ghost use Rattle.lr_names.specs.Channel.{ChannelOf};
-ghost use Rattle.lr_model.specs.Board.{closed_connection, new_connection, board_after_post, reached_by, dropped_by, connection_after_drain, dropped_connection, has_channel, has_room, is_open, same_channel, connection_after_subscribe, connection_after_unsubscribe, with_channel, without_channel, with_connection, free_numbers};
+ghost use Rattle.lr_limits.specs.Limits.{connection_limit};
+ghost use Rattle.lr_model.specs.Board.{closed_connection, new_connection, board_after_post, reached_by, dropped_by, connection_after_drain, dropped_connection, has_channel, is_open, same_channel, connection_after_subscribe, connection_after_unsubscribe, with_channel, without_channel, with_connection, free_numbers};
 ghost use Rattle.lr_model.specs.History.{state_at_start};
-ghost use Rattle.lr_pubsub.specs.Kept.{HasMemory, IsReady, connection_at};
-ghost use Rattle.lr_pubsub.specs.Listed.{board_of, connections_of, is_shut, is_in_flight};
-ghost use Rattle.lr_pubsub.specs.Numbers.{without_number};
-ghost use Rattle.lr_pubsub.specs.Told.{told_so, with_message, without_slow};
+ghost use Rattle.lr_model.specs.Table.{put};
+ghost use Rattle.lr_pubsub.specs.BoardValue.{board_of};
+ghost use Rattle.lr_pubsub.specs.Connection.{is_shut, is_in_flight};
+ghost use Rattle.lr_pubsub.specs.ConnectionSet.{has_number};
+ghost use Rattle.lr_pubsub.specs.ConnectionSlot.{HasSpare, connections_of, slot_at};
+ghost use Rattle.lr_pubsub.specs.Delivery.{board_after_drops};
 ghost use Rattle.lr_pubsub.specs.Subscribers.{listeners};
 
-use crate::MOST_CONNECTIONS;
+use crate::connection_set::ConnectionSet;
+use crate::connection_slot::ConnectionSlot;
 use crate::conns::Conns;
+use crate::delivery::{take_numbers, tell_all};
 use crate::fault::BoardFault;
 use crate::posted::Posted;
 use crate::pushes::Pushes;
-use crate::same::is_same;
-use crate::slot::Slot;
 use crate::subscribers::Subscribers;
+use lr_limits::MOST_CONNECTIONS;
 use lr_names::{Channel, Post};
 use std::alloc::{AllocError, Global};
 use std::marker::Model;
-use std::mem;
 
 /// The connections by their numbers: who opened them, what they subscribe to, and what waits to be
 /// sent to them.
@@ -29,24 +32,39 @@ use std::mem;
 pub struct Board {
     alloc: Global,
     // one for each number that a connection may have
-    slots: Vec<Slot>,
+    slots: Vec<ConnectionSlot>,
+    // the numbers at which no connection is open
+    free: ConnectionSet,
+    // the connections that may have used or lost a spare place
+    touched: ConnectionSet,
     subscribers: Subscribers,
-    // the channel for whose next message all memory was taken
-    ready: Option<Channel>,
-    // room for those that this message drops
+    // room for those that the next message drops
     dropping: Vec<u32>,
+    // whether the next subscription, leave or message needs no memory
+    ready: bool,
 }
 
 impl Model for Board {
     ghost use Rattle.std.specs.Prelude.{vec_capacity};
-    ghost use Rattle.lr_pubsub.specs.Listed.{Listed, connections_of};
-    ghost use Rattle.lr_pubsub.specs.Kept.{IsKept};
+    ghost use Rattle.indexmap.specs.IndexMap.{spare};
+    ghost use Rattle.lr_pubsub.specs.BoardValue.{BoardValue};
+    ghost use Rattle.lr_pubsub.specs.ConnectionSlot.{connections_of};
+    ghost use Rattle.lr_pubsub.specs.BoardParts.{IsBoard};
 
-    ghost Value = { Listed };
+    ghost Value = { BoardValue };
 
     ghost view = { λ b. record { connections = connections_of b.slots.items; ready = b.ready } };
 
-    ghost invariant = { λ b. IsKept b.slots.items b.subscribers b.ready b.dropping.items (vec_capacity b.dropping) };
+    ghost invariant = { λ b. IsBoard (record {
+      slots = b.slots.items;
+      free = b.free;
+      touched = b.touched;
+      rows = b.subscribers.by_channel.entries;
+      spare_rows = spare b.subscribers.by_channel;
+      dropping = b.dropping.items;
+      dropping_room = vec_capacity b.dropping;
+      ready = b.ready;
+    }) };
 }
 
 impl Board {
@@ -56,15 +74,24 @@ impl Board {
         ensures { IfOk result (λ board. board_of board ≡ (state_at_start last).board) }
     {
         let mut slots = Vec::with_capacity(alloc, MOST_CONNECTIONS as usize)?;
+        let mut free = ConnectionSet::empty();
+        let mut touched = ConnectionSet::empty();
         for conn in 0..MOST_CONNECTIONS {
             slots.push_reserved(first_slot(alloc, conn, last));
+            if conn <= last {
+                touched.add(conn);
+            } else {
+                free.add(conn);
+            }
         }
         Ok(Board {
             alloc,
             slots,
+            free,
+            touched,
             subscribers: Subscribers::new(alloc),
-            ready: None,
             dropping: Vec::new(alloc),
+            ready: false,
         })
     }
 
@@ -74,7 +101,9 @@ impl Board {
         requires free { is_open (board_of self.old conn) ≡ false }
         ensures { board_of self.new ≡ with_connection (board_of self.old) conn (new_connection caller) }
     {
-        self.ready = None;
+        self.ready = false;
+        self.free.remove(conn);
+        self.touched.add(conn);
         self.slots[conn as usize].open(caller);
     }
 
@@ -83,58 +112,64 @@ impl Board {
         requires { IsTrue (is_open (board_of self.old conn)) }
         ensures { board_of self.new ≡ with_connection (board_of self.old) conn closed_connection }
     {
-        self.ready = None;
+        self.ready = false;
+        self.free.add(conn);
         leave_all(
             &mut self.subscribers,
             self.slots[conn as usize].channels(),
             conn,
         );
-        self.slots[conn as usize] = Slot::closed(self.alloc);
+        self.slots[conn as usize] = ConnectionSlot::closed(self.alloc);
+    }
+
+    /// Takes the memory that the next message, subscription or leave needs, whichever it is, unless the board
+    /// changes before it. It touches only the connections that changed since this was done last. After an
+    /// error some of the memory may be taken.
+    pub fn reserve(&mut self) -> Result<(), AllocError>
+        ensures ready { OnOk result (IsTrue self.new.ready) }
+        ensures succeeds { IsTrue self.old.ready → IsOk result }
+        ensures same { self.new.connections ≡ self.old.connections }
+    {
+        if self.ready {
+            return Ok(());
+        }
+        self.take_memory()
     }
 
     /// Subscribes an open connection to a channel, and answers how many channels it then has. The
     /// acknowledgement waits in its outbox; a repeat is acknowledged again. An error changes nothing.
     pub fn subscribe(&mut self, conn: u32, channel: &Channel) -> Result<u32, BoardFault>
         requires { IsTrue (is_open (board_of self.old conn)) }
-        ensures ok { OnOk result (board_of self.new
-            ≡ with_connection (board_of self.old) conn (connection_after_subscribe channel.now (board_of self.old conn))) }
+        ensures ok { OnOk result (board_of self.new ≡ with_connection (board_of self.old) conn
+            (connection_after_subscribe channel.now (board_of self.old conn))) }
         ensures count { IfOk result (λ n. n ≡ length (with_channel channel.now (board_of self.old conn))) }
         ensures dropped { (result ≡ Err BoardFault.Dropped) ↔ IsTrue (is_shut (board_of self.old conn)) }
+        ensures succeeds { IsTrue self.old.ready → result ≢ Err BoardFault.NoMemory }
         ensures err { OnErr result (self.new.connections ≡ self.old.connections) }
     {
         if self.is_shut(conn) {
             return Err(BoardFault::Dropped);
         }
-        Ok(self.join(conn, channel)?)
+        self.reserve()?;
+        Ok(self.join(conn, channel))
     }
 
     /// Takes a channel from an open connection, whether it has it or not, and answers how many it then
     /// has. The acknowledgement waits in its outbox. An error changes nothing.
     pub fn unsubscribe(&mut self, conn: u32, channel: &Channel) -> Result<u32, BoardFault>
         requires { IsTrue (is_open (board_of self.old conn)) }
-        ensures ok { OnOk result (board_of self.new
-            ≡ with_connection (board_of self.old) conn (connection_after_unsubscribe channel.now (board_of self.old conn))) }
+        ensures ok { OnOk result (board_of self.new ≡ with_connection (board_of self.old) conn
+            (connection_after_unsubscribe channel.now (board_of self.old conn))) }
         ensures count { IfOk result (λ n. n ≡ length (without_channel channel.now (board_of self.old conn))) }
         ensures dropped { (result ≡ Err BoardFault.Dropped) ↔ IsTrue (is_shut (board_of self.old conn)) }
+        ensures succeeds { IsTrue self.old.ready → result ≢ Err BoardFault.NoMemory }
         ensures err { OnErr result (self.new.connections ≡ self.old.connections) }
     {
         if self.is_shut(conn) {
             return Err(BoardFault::Dropped);
         }
-        Ok(self.leave(conn, channel)?)
-    }
-
-    /// Takes the memory that the next message on a channel needs, unless the board changes before it.
-    /// It touches those alone that have the channel.
-    pub fn reserve(&mut self, channel: &Channel) -> Result<(), AllocError>
-        ensures ready { OnOk result (self.new.ready ≡ Some channel.now) }
-        ensures same { self.new.connections ≡ self.old.connections }
-    {
-        self.ready = None;
-        let full = make_room(&mut self.slots, self.subscribers.listeners(channel))?;
-        self.dropping = Vec::with_capacity(self.alloc, full)?;
-        self.ready = Some(*channel);
-        Ok(())
+        self.reserve()?;
+        Ok(self.leave(conn, channel))
     }
 
     /// Sends a message to those that have its channel. One whose outbox is full is dropped: it loses its
@@ -143,12 +178,10 @@ impl Board {
         ensures ok { OnOk result (board_of self.new ≡ board_after_post (Some post.now) (board_of self.old)) }
         ensures reached { IfOk result (λ p. p.reached ≡ reached_by post.now (board_of self.old)) }
         ensures dropped { IfOk result (λ p. p.dropped ≡ dropped_by post.now (board_of self.old)) }
-        ensures succeeds { self.old.ready ≡ Some post.now.channel → IsOk result }
+        ensures succeeds { IsTrue self.old.ready → IsOk result }
         ensures err { OnErr result (self.new.connections ≡ self.old.connections) }
     {
-        if !self.is_ready(&post.channel) {
-            self.reserve(&post.channel)?;
-        }
+        self.reserve()?;
         Ok(self.deliver(post))
     }
 
@@ -156,8 +189,8 @@ impl Board {
     /// nothing.
     pub fn drain(&mut self, conn: u32, most: u32) -> Result<Pushes, BoardFault>
         requires { IsTrue (is_open (board_of self.old conn)) }
-        ensures ok { OnOk result (board_of self.new
-            ≡ with_connection (board_of self.old) conn (connection_after_drain most (board_of self.old conn))) }
+        ensures ok { OnOk result (board_of self.new ≡ with_connection (board_of self.old) conn
+            (connection_after_drain most (board_of self.old conn))) }
         ensures items { IfOk result (λ items. items ≡ take most (board_of self.old conn).outbox) }
         ensures dropped { (result ≡ Err BoardFault.Dropped) ↔ IsTrue (board_of self.old conn).dropped }
         ensures err { OnErr result (self.new.connections ≡ self.old.connections) }
@@ -172,7 +205,7 @@ impl Board {
     pub fn next_free(&self) -> Option<u32>
         ensures { result ≡ slice_get (free_numbers (board_of self.now)) 0 }
     {
-        (0..MOST_CONNECTIONS).find(|conn| self.opener(*conn).is_none())
+        self.free.first()
     }
 
     /// Who opened a connection: `None` where it isn't open.
@@ -186,14 +219,14 @@ impl Board {
     pub fn is_dropped(&self, conn: u32) -> bool
         ensures { result ≡ (board_of self.now conn).dropped }
     {
-        self.slot(conn).is_some_and(Slot::is_dropped)
+        self.slot(conn).is_some_and(ConnectionSlot::is_dropped)
     }
 
     /// Whether a connection takes no acknowledgement: it was dropped, or its outbox is full.
     pub fn is_shut(&self, conn: u32) -> bool
         ensures { result ≡ is_shut (board_of self.now conn) }
     {
-        self.slot(conn).is_some_and(Slot::is_shut)
+        self.slot(conn).is_some_and(ConnectionSlot::is_shut)
     }
 
     /// How many channels a connection has.
@@ -207,14 +240,14 @@ impl Board {
     pub fn has_channel(&self, conn: u32, channel: &Channel) -> bool
         ensures { result ≡ has_channel channel.now (board_of self.now conn) }
     {
-        self.subscribers.has(channel, conn)
+        conn < MOST_CONNECTIONS && self.subscribers.listeners(channel).has(conn)
     }
 
     /// How many items wait in a connection's outbox.
     pub fn waiting(&self, conn: u32) -> usize
         ensures { result ≡ length (board_of self.now conn).outbox }
     {
-        self.slot(conn).map_or(0, Slot::waiting)
+        self.slot(conn).map_or(0, ConnectionSlot::waiting)
     }
 
     /// Whether a message of a channel waits in a connection's outbox.
@@ -226,20 +259,33 @@ impl Board {
     }
 
     // The place of a connection, if there is one for its number.
-    fn slot(&self, conn: u32) -> Option<&Slot>
+    fn slot(&self, conn: u32) -> Option<&ConnectionSlot>
         ensures { option_map (λ slot. slot.connection) (option_copied result) ≡ slice_get self.now.connections conn }
     {
         self.slots.get(conn as usize)
     }
 
-    // Gives a channel to an open connection, or acknowledges it again where it has it. An error changes
-    // nothing.
-    fn join(&mut self, conn: u32, channel: &Channel) -> Result<u32, AllocError>
-        requires { IsTrue (is_open (board_of self.old conn)) }
-        ensures ok { OnOk result (board_of self.new
-            ≡ with_connection (board_of self.old) conn (connection_after_subscribe channel.now (board_of self.old conn))) }
-        ensures count { IfOk result (λ n. n ≡ length (with_channel channel.now (board_of self.old conn))) }
-        ensures err { OnErr result (self.new.connections ≡ self.old.connections) }
+    // Takes the memory of all spare places that are wanting.
+    fn take_memory(&mut self) -> Result<(), AllocError>
+        ensures ready { OnOk result (IsTrue self.new.ready) }
+        ensures same { self.new.connections ≡ self.old.connections }
+    {
+        self.ready = false;
+        reserve_touched(&mut self.slots, &mut self.touched)?;
+        self.subscribers.reserve()?;
+        self.dropping.reserve(MOST_CONNECTIONS as usize)?;
+        self.ready = true;
+        Ok(())
+    }
+
+    // Gives a channel to an open connection, or acknowledges it again where it has it.
+    fn join(&mut self, conn: u32, channel: &Channel) -> u32
+        requires opened { IsTrue (is_open (board_of self.old conn)) }
+        requires takes { is_shut (board_of self.old conn) ≡ false }
+        requires ready { IsTrue self.old.ready }
+        ensures board { board_of self.new ≡ with_connection (board_of self.old) conn
+            (connection_after_subscribe channel.now (board_of self.old conn)) }
+        ensures count { result ≡ length (with_channel channel.now (board_of self.old conn)) }
     {
         if self.has_channel(conn, channel) {
             self.acknowledge(conn, channel)
@@ -248,82 +294,78 @@ impl Board {
         }
     }
 
-    // Acknowledges a channel that the connection has. An error changes nothing.
-    fn acknowledge(&mut self, conn: u32, channel: &Channel) -> Result<u32, AllocError>
+    // Acknowledges a channel that the connection has.
+    fn acknowledge(&mut self, conn: u32, channel: &Channel) -> u32
         requires opened { IsTrue (is_open (board_of self.old conn)) }
+        requires takes { is_shut (board_of self.old conn) ≡ false }
+        requires ready { IsTrue self.old.ready }
         requires had { IsTrue (has_channel channel.now (board_of self.old conn)) }
-        ensures ok { OnOk result (board_of self.new
-            ≡ with_connection (board_of self.old) conn (connection_after_subscribe channel.now (board_of self.old conn))) }
-        ensures count { IfOk result (λ n. n ≡ length (with_channel channel.now (board_of self.old conn))) }
-        ensures err { OnErr result (self.new.connections ≡ self.old.connections) }
+        ensures board { board_of self.new ≡ with_connection (board_of self.old) conn
+            (connection_after_subscribe channel.now (board_of self.old conn)) }
+        ensures count { result ≡ length (with_channel channel.now (board_of self.old conn)) }
     {
-        self.ready = None;
+        self.ready = false;
+        self.touched.add(conn);
         self.slots[conn as usize].acknowledge(channel)
     }
 
-    // Adds a channel that the connection doesn't have. An error changes nothing.
-    fn add_channel(&mut self, conn: u32, channel: &Channel) -> Result<u32, AllocError>
+    // Adds a channel that the connection doesn't have.
+    fn add_channel(&mut self, conn: u32, channel: &Channel) -> u32
         requires opened { IsTrue (is_open (board_of self.old conn)) }
+        requires takes { is_shut (board_of self.old conn) ≡ false }
+        requires ready { IsTrue self.old.ready }
         requires absent { has_channel channel.now (board_of self.old conn) ≡ false }
-        ensures ok { OnOk result (board_of self.new
-            ≡ with_connection (board_of self.old) conn (connection_after_subscribe channel.now (board_of self.old conn))) }
-        ensures count { IfOk result (λ n. n ≡ length (with_channel channel.now (board_of self.old conn))) }
-        ensures err { OnErr result (self.new.connections ≡ self.old.connections) }
+        ensures board { board_of self.new ≡ with_connection (board_of self.old) conn
+            (connection_after_subscribe channel.now (board_of self.old conn)) }
+        ensures count { result ≡ length (with_channel channel.now (board_of self.old conn)) }
     {
-        self.ready = None;
-        let slot = &mut self.slots[conn as usize];
-        slot.reserve_channel()?;
-        self.subscribers.add(channel, conn)?;
-        Ok(slot.join(channel))
+        self.ready = false;
+        self.touched.add(conn);
+        self.subscribers.add(channel, conn);
+        self.slots[conn as usize].join(channel)
     }
 
-    // Takes a channel from an open connection, whether it has it or not. An error changes nothing.
-    fn leave(&mut self, conn: u32, channel: &Channel) -> Result<u32, AllocError>
-        requires { IsTrue (is_open (board_of self.old conn)) }
-        ensures ok { OnOk result (board_of self.new
-            ≡ with_connection (board_of self.old) conn (connection_after_unsubscribe channel.now (board_of self.old conn))) }
-        ensures count { IfOk result (λ n. n ≡ length (without_channel channel.now (board_of self.old conn))) }
-        ensures err { OnErr result (self.new.connections ≡ self.old.connections) }
+    // Takes a channel from an open connection, whether it has it or not.
+    fn leave(&mut self, conn: u32, channel: &Channel) -> u32
+        requires opened { IsTrue (is_open (board_of self.old conn)) }
+        requires takes { is_shut (board_of self.old conn) ≡ false }
+        requires ready { IsTrue self.old.ready }
+        ensures board { board_of self.new ≡ with_connection (board_of self.old) conn
+            (connection_after_unsubscribe channel.now (board_of self.old conn)) }
+        ensures count { result ≡ length (without_channel channel.now (board_of self.old conn)) }
     {
-        self.ready = None;
-        let count = self.slots[conn as usize].leave(channel)?;
+        self.ready = false;
+        self.touched.add(conn);
         self.subscribers.remove(channel, conn);
-        Ok(count)
+        self.slots[conn as usize].leave(channel)
     }
 
     // Takes the first items of the outbox of an open connection. An error changes nothing.
     fn take_first(&mut self, conn: u32, most: u32) -> Result<Pushes, AllocError>
         requires { IsTrue (is_open (board_of self.old conn)) }
-        ensures ok { OnOk result (board_of self.new
-            ≡ with_connection (board_of self.old) conn (connection_after_drain most (board_of self.old conn))) }
+        ensures ok { OnOk result (board_of self.new ≡ with_connection (board_of self.old) conn
+            (connection_after_drain most (board_of self.old conn))) }
         ensures items { IfOk result (λ items. items ≡ take most (board_of self.old conn).outbox) }
         ensures err { OnErr result (self.new.connections ≡ self.old.connections) }
     {
-        self.ready = None;
+        self.ready = false;
+        self.touched.add(conn);
         self.slots[conn as usize].drain(self.alloc, most)
-    }
-
-    // Whether all memory was taken for the next message on a channel.
-    fn is_ready(&self, channel: &Channel) -> bool
-        ensures { IsTrue result ↔ (self.now.ready ≡ Some channel.now) }
-    {
-        match &self.ready {
-            Some(ready) => is_same(ready, channel),
-            None => false,
-        }
     }
 
     // Sends a message for which all memory was taken.
     fn deliver(&mut self, post: &Post) -> Posted
-        requires { self.old.ready ≡ Some post.now.channel }
+        requires { IsTrue self.old.ready }
         ensures board { board_of self.new ≡ board_after_post (Some post.now) (board_of self.old) }
         ensures reached { result.reached ≡ reached_by post.now (board_of self.old) }
         ensures dropped { result.dropped ≡ dropped_by post.now (board_of self.old) }
     {
-        self.ready = None;
-        let mut dropped = mem::replace(&mut self.dropping, Vec::new(self.alloc));
+        self.ready = false;
         let listeners = self.subscribers.listeners(&post.channel);
-        let reached = tell_all(&mut self.slots, listeners, post, &mut dropped);
+        // nobody else was touched since all memory was taken
+        self.touched = listeners;
+        let reached = tell_all(&mut self.slots, listeners, post, &mut self.dropping);
+        let dropped = take_numbers(self.alloc, &mut self.dropping);
         self.drop_all(dropped.as_slice());
         Posted {
             reached,
@@ -334,7 +376,7 @@ impl Board {
     // Drops these connections.
     fn drop_all(&mut self, conns: &[u32])
         requires { All (λ conn. IsTrue (is_open (board_of self.old conn))) conns.now }
-        ensures { board_of self.new ≡ without_slow conns.now (board_of self.old) }
+        ensures { board_of self.new ≡ board_after_drops conns.now (board_of self.old) }
     {
         for conn in conns {
             self.drop_out(*conn);
@@ -344,10 +386,10 @@ impl Board {
     // Drops an open connection.
     fn drop_out(&mut self, conn: u32)
         requires { IsTrue (is_open (board_of self.old conn)) }
-        ensures { board_of self.new
-            ≡ with_connection (board_of self.old) conn (dropped_connection (board_of self.old conn)) }
+        ensures { board_of self.new ≡ with_connection (board_of self.old) conn
+            (dropped_connection (board_of self.old conn)) }
     {
-        self.ready = None;
+        self.ready = false;
         leave_all(
             &mut self.subscribers,
             self.slots[conn as usize].channels(),
@@ -358,10 +400,10 @@ impl Board {
 }
 
 // The place of a connection when the board is new.
-fn first_slot(alloc: Global, conn: u32, last: u32) -> Slot
+fn first_slot(alloc: Global, conn: u32, last: u32) -> ConnectionSlot
     ensures { result.connection ≡ (if nat_le conn last then new_connection 0 else closed_connection) }
 {
-    let mut slot = Slot::closed(alloc);
+    let mut slot = ConnectionSlot::closed(alloc);
     if conn <= last {
         slot.open(0);
     }
@@ -370,81 +412,32 @@ fn first_slot(alloc: Global, conn: u32, last: u32) -> Slot
 
 // Takes channels from a connection.
 fn leave_all(subscribers: &mut Subscribers, channels: &[Channel], conn: u32)
-    ensures { (q : ChannelOf) → listeners q subscribers.new
-        ≡ (if list_any (same_channel q) channels.now then without_number conn (listeners q subscribers.old) else listeners q subscribers.old) }
+    requires { conn < MOST_CONNECTIONS }
+    ensures { (q : ChannelOf) → listeners q subscribers.new.by_channel.entries
+        ≡ (if list_any (same_channel q) channels.now
+        then put ◌==◌ (listeners q subscribers.old.by_channel.entries) conn false
+        else listeners q subscribers.old.by_channel.entries) }
 {
     for channel in channels {
         subscribers.remove(channel, conn);
     }
 }
 
-// Takes the memory for one item more at each of these that has room for it, and counts the others.
-fn make_room(slots: &mut Vec<Slot>, listeners: &[u32]) -> Result<usize, AllocError>
-    requires few { length listeners.now ≤ MOST_CONNECTIONS }
-    requires within { All (λ conn. conn < vec_len slots.old) listeners.now }
+// Takes the memory of the spare places of these connections, and takes each that has them out of the set. An
+// error leaves the others in it.
+fn reserve_touched(
+    slots: &mut Vec<ConnectionSlot>,
+    touched: &mut ConnectionSet,
+) -> Result<(), AllocError>
+    requires many { vec_len slots.old ≡ connection_limit }
+    requires spare { (conn : ℕ) → has_number touched.old conn ≡ false → HasSpare (slot_at slots.old.items conn) }
     ensures same { connections_of slots.new.items ≡ connections_of slots.old.items }
-    ensures room { OnOk result (All (HasMemory slots.new.items) listeners.now) }
-    ensures full { IfOk result (λ n. n
-        ≡ length (filter (λ conn. not (has_room (connection_at slots.old.items conn))) listeners.now)) }
+    ensures spare { (conn : ℕ) → has_number touched.new conn ≡ false → HasSpare (slot_at slots.new.items conn) }
+    ensures done { OnOk result (has_number touched.new ≡ (λ _. false)) }
 {
-    let mut full: usize = 0;
-    for conn in listeners {
-        if !make_item_room(&mut slots[*conn as usize])? {
-            full += 1;
-        }
+    while let Some(conn) = touched.first() {
+        slots[conn as usize].reserve()?;
+        touched.remove(conn);
     }
-    Ok(full)
-}
-
-// Takes the memory for one item more, if the outbox takes one, and answers whether it does.
-fn make_item_room(slot: &mut Slot) -> Result<bool, AllocError>
-    ensures same { slot.new.connection ≡ slot.old.connection }
-    ensures kept { slot.old.room ≤ slot.new.room }
-    ensures has { IfOk result (λ has. has ≡ has_room slot.old.connection) }
-    ensures room { IfOk result (λ has. has ≡ true → 0 < slot.new.room) }
-{
-    let has_room = slot.has_room();
-    if has_room {
-        slot.reserve_item()?;
-    }
-    Ok(has_room)
-}
-
-// Sends a message to these, each once, and lists those whose outboxes are full.
-fn tell_all(slots: &mut Vec<Slot>, listeners: &[u32], post: &Post, full: &mut Vec<u32>) -> u32
-    requires once { AllPairs ◌<◌ listeners.now }
-    requires few { length listeners.now ≤ MOST_CONNECTIONS }
-    requires within { All (λ conn. conn < vec_len slots.old) listeners.now }
-    requires opened { All (λ conn. IsTrue (is_open (connection_at slots.old.items conn))) listeners.now }
-    requires ready { IsReady slots.old.items listeners.now full.old.items (vec_capacity full.old) }
-    ensures many { vec_len slots.new ≡ vec_len slots.old }
-    ensures board { (conn : ℕ) → connection_at slots.new.items conn
-        ≡ told_so post.now listeners.now (connection_at slots.old.items) conn }
-    ensures reached { result ≡ length (filter (λ conn. has_room (connection_at slots.old.items conn)) listeners.now) }
-    ensures full { full.new.items
-        ≡ filter (λ conn. not (has_room (connection_at slots.old.items conn))) listeners.now }
-{
-    let mut reached: u32 = 0;
-    for conn in listeners {
-        if tell(&mut slots[*conn as usize], post) {
-            reached += 1;
-        } else {
-            full.push_reserved(*conn);
-        }
-    }
-    reached
-}
-
-// Puts a message last, if the outbox takes one item more, and answers whether it does.
-fn tell(slot: &mut Slot, post: &Post) -> bool
-    requires opened { IsTrue (is_open slot.old.connection) }
-    requires ready { IsTrue (has_room slot.old.connection) → 0 < slot.old.room }
-    ensures told { slot.new.connection ≡ with_message post.now slot.old.connection }
-    ensures has { result ≡ has_room slot.old.connection }
-{
-    let has_room = slot.has_room();
-    if has_room {
-        slot.tell(post);
-    }
-    has_room
+    Ok(())
 }

@@ -1,7 +1,6 @@
-ghost use Rattle.std.specs.Prelude.{◌≡◌, ◌↔◌, [], length, IsTrue, OnOk, OnErr};
-ghost use Rattle.lr_pubsub.specs.Numbers.{with_number, without_number};
+ghost use Rattle.std.specs.Prelude.{◌≡◌, ◌↔◌, [], length, IsTrue};
 
-use std::alloc::{AllocError, Global};
+use std::alloc::Global;
 use std::marker::Model;
 
 /// A list of numbers of connections.
@@ -33,27 +32,6 @@ impl Conns {
         ensures { result ≡ numbers.items }
     {
         Conns { numbers }
-    }
-
-    /// Puts a number before the first that is greater. An error leaves the list as it was.
-    pub(crate) fn add(&mut self, conn: u32) -> Result<(), AllocError>
-        ensures ok { OnOk result (self.new ≡ with_number conn self.old) }
-        ensures err { OnErr result (self.new ≡ self.old) }
-    {
-        let place = self
-            .numbers
-            .iter()
-            .take_while(|other| **other <= conn)
-            .count();
-        self.numbers.insert(place, conn)?;
-        Ok(())
-    }
-
-    /// Takes a number out.
-    pub(crate) fn remove(&mut self, conn: u32)
-        ensures { self.new ≡ without_number conn self.old }
-    {
-        self.numbers.retain(|other| *other != conn);
     }
 
     /// How many numbers there are.

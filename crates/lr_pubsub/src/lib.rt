@@ -3,12 +3,14 @@
 #![tactic(auto)]
 
 mod board;
+mod channels;
+mod connection_set;
+mod connection_slot;
 mod conns;
+mod delivery;
 mod fault;
 mod posted;
 mod pushes;
-mod same;
-mod slot;
 mod subscribers;
 
 pub use board::Board;
@@ -16,12 +18,6 @@ pub use conns::Conns;
 pub use fault::BoardFault;
 pub use posted::Posted;
 pub use pushes::Pushes;
-
-/// How many connections there are at most. They are numbered from 0.
-pub const MOST_CONNECTIONS: u32 = 256;
-
-/// How many items wait in an outbox at most.
-pub const MOST_WAITING: usize = 16_384;
 
 #[cfg(test)]
 mod tests;

@@ -1,66 +1,59 @@
-ghost use Rattle.std.specs.Prelude.{◌≡◌, ℕ, ◌==◌, [], if◌then◌else◌, IfOk, OnOk, OnErr, false};
-ghost use Rattle.std.specs.List.{list_any};
+ghost use Rattle.std.specs.Prelude.{◌≡◌, ℕ, ◌==◌, ◌<◌, ◌≤◌, [], true, false, if◌then◌else◌, OnOk, IsOk};
+ghost use Rattle.indexmap.specs.IndexMap.{spare};
 ghost use Rattle.lr_names.specs.Channel.{ChannelOf};
 ghost use Rattle.lr_model.specs.Board.{same_channel};
-ghost use Rattle.lr_pubsub.specs.Numbers.{with_number, without_number};
+ghost use Rattle.lr_model.specs.Table.{put};
+ghost use Rattle.lr_pubsub.specs.ConnectionSet.{has_number};
 ghost use Rattle.lr_pubsub.specs.Subscribers.{listeners};
 
-use crate::conns::Conns;
+use crate::connection_set::ConnectionSet;
 use indexmap::IndexMap;
+use lr_limits::MOST_CONNECTIONS;
 use lr_names::Channel;
 use std::alloc::{AllocError, Global};
-use std::marker::Model;
 
-/// For each channel the connections that have it, in order of their numbers. A channel that nobody
-/// has isn't kept.
+/// For each channel the connections that have it. A channel that nobody has isn't kept.
 #[derive(Drop)]
 pub(crate) struct Subscribers {
-    alloc: Global,
-    by_channel: IndexMap<Channel, Conns>,
-}
-
-impl Model for Subscribers {
-    ghost use Rattle.std.specs.Prelude.{ℕ, List};
-    ghost use Rattle.lr_names.specs.Channel.{ChannelOf};
-
-    ghost Value = { List (ChannelOf × List ℕ) };
-
-    ghost view = { λ s. s.by_channel.entries };
+    by_channel: IndexMap<Channel, ConnectionSet>,
 }
 
 impl Subscribers {
     /// Nobody has a channel. It takes no memory.
     pub(crate) fn new(alloc: Global) -> Self
-        ensures { result ≡ [] }
+        ensures { result.by_channel.entries ≡ [] }
     {
         Subscribers {
-            alloc,
             by_channel: IndexMap::new(alloc),
         }
     }
 
+    /// Takes the memory for one channel more.
+    pub(crate) fn reserve(&mut self) -> Result<(), AllocError>
+        ensures same { self.new.by_channel.entries ≡ self.old.by_channel.entries }
+        ensures ok { OnOk result (0 < spare self.new.by_channel) }
+    {
+        self.by_channel.reserve(1)
+    }
+
     /// The connections that have a channel.
-    pub(crate) fn listeners(&self, channel: &Channel) -> &[u32]
-        ensures { result.now ≡ listeners channel.now self.now }
+    pub(crate) fn listeners(&self, channel: &Channel) -> ConnectionSet
+        ensures { has_number result ≡ listeners channel.now self.now.by_channel.entries }
     {
         match self.by_channel.get(channel) {
-            Some(numbers) => numbers.as_slice(),
-            None => &[],
+            Some(numbers) => *numbers,
+            None => ConnectionSet::empty(),
         }
     }
 
-    /// Whether a connection has a channel.
-    pub(crate) fn has(&self, channel: &Channel, conn: u32) -> bool
-        ensures { result ≡ list_any (λ other. other == conn) (listeners channel.now self.now) }
-    {
-        self.listeners(channel).contains(&conn)
-    }
-
-    /// Adds a connection to a channel that it doesn't have. An error leaves all as it was.
-    pub(crate) fn add(&mut self, channel: &Channel, conn: u32) -> Result<(), AllocError>
-        ensures ok { OnOk result ((q : ChannelOf) → listeners q self.new
-            ≡ (if same_channel q channel.now then with_number conn (listeners channel.now self.old) else listeners q self.old)) }
-        ensures err { OnErr result (self.new ≡ self.old) }
+    /// Adds a connection to a channel, for which there is room. It takes no memory.
+    pub(crate) fn add(&mut self, channel: &Channel, conn: u32)
+        requires number { conn < MOST_CONNECTIONS }
+        requires room { 0 < spare self.old.by_channel }
+        ensures { (q : ChannelOf) → listeners q self.new.by_channel.entries
+            ≡ (if same_channel q channel.now
+            then put ◌==◌ (listeners q self.old.by_channel.entries) conn true
+            else listeners q self.old.by_channel.entries) }
     {
         match self.by_channel.get_mut(channel) {
             Some(numbers) => numbers.add(conn),
@@ -70,8 +63,11 @@ impl Subscribers {
 
     /// Takes a channel from a connection. It takes no memory.
     pub(crate) fn remove(&mut self, channel: &Channel, conn: u32)
-        ensures { (q : ChannelOf) → listeners q self.new
-            ≡ (if same_channel q channel.now then without_number conn (listeners q self.old) else listeners q self.old) }
+        requires { conn < MOST_CONNECTIONS }
+        ensures { (q : ChannelOf) → listeners q self.new.by_channel.entries
+            ≡ (if same_channel q channel.now
+            then put ◌==◌ (listeners q self.old.by_channel.entries) conn false
+            else listeners q self.old.by_channel.entries) }
     {
         let Some(numbers) = self.by_channel.get_mut(channel) else {
             return;
@@ -83,15 +79,17 @@ impl Subscribers {
     }
 
     // Begins a channel that nobody has.
-    fn add_channel(&mut self, channel: &Channel, conn: u32) -> Result<(), AllocError>
-        requires { listeners channel.now self.old ≡ [] }
-        ensures ok { OnOk result ((q : ChannelOf) → listeners q self.new
-            ≡ (if same_channel q channel.now then with_number conn [] else listeners q self.old)) }
-        ensures err { OnErr result (self.new ≡ self.old) }
+    fn add_channel(&mut self, channel: &Channel, conn: u32)
+        requires number { conn < MOST_CONNECTIONS }
+        requires room { 0 < spare self.old.by_channel }
+        requires nobody { listeners channel.now self.old.by_channel.entries ≡ (λ _. false) }
+        ensures { (q : ChannelOf) → listeners q self.new.by_channel.entries
+            ≡ (if same_channel q channel.now
+            then put ◌==◌ (λ _. false) conn true
+            else listeners q self.old.by_channel.entries) }
     {
-        let mut numbers = Conns::new(self.alloc);
-        numbers.add(conn)?;
-        self.by_channel.insert(*channel, numbers)?;
-        Ok(())
+        let mut numbers = ConnectionSet::empty();
+        numbers.add(conn);
+        self.by_channel.insert(*channel, numbers).unwrap();
     }
 }

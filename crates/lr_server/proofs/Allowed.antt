@@ -6,7 +6,7 @@ use Rattle.lr_model.specs.declared.entry.Act.{Act}
 use Rattle.lr_model.specs.declared.entry.Act.TheVariants.{Call, Subscribe, Unsubscribe, Open, Close, Drain}
 use Rattle.lr_model.specs.Board.{Connection, is_open, has_room}
 use Rattle.lr_model.specs.History.{State, CanAcknowledge, IsAllowed}
-use Rattle.lr_pubsub.specs.Listed.{is_shut}
+use Rattle.lr_pubsub.specs.Connection.{is_shut}
 use Rattle.lr_server.specs.Server.{is_asked, is_only_subscribed, is_stopped}
 
 none_of : (channels : List ChannelOf) → nat_le 1 (length channels) ≡ false → channels ≡ []

@@ -18,7 +18,7 @@ use Rattle.lr_model.specs.Answer.{Objects, name_of, mutex_outcome, outcome_of, r
 use Rattle.lr_model.specs.Board.{Connection, closed_connection, board_after_post}
 use Rattle.lr_model.specs.History.{State}
 use Rattle.lr_mutex.specs.Stands.{StandsFor}
-use Rattle.lr_pubsub.specs.Listed.{Listed, board_of}
+use Rattle.lr_pubsub.specs.BoardValue.{BoardValue, board_of}
 use Rattle.lr_server.specs.declared.answered.Answered.{Answered}
 use Rattle.lr_server.specs.declared.answered.Answer.TheVariants as answers
 use Rattle.lr_server.specs.Server.{may_post, reached_of, dropped_of}
@@ -61,10 +61,10 @@ is_ready objects moment op post ready is prepared =
         subst (λ (p : Option Post). IfSome p (λ p. ready ≡ Some p.channel)) (sym none) (search rules)
 
 -- the board is what its connections are
-pub same_board : (board board2 : Listed) → board2.connections ≡ board.connections → board_of board2 ≡ board_of board
+pub same_board : (board board2 : BoardValue) → board2.connections ≡ board.connections → board_of board2 ≡ board_of board
 same_board board board2 same = ap (λ (cs : List Connection). λ conn. unwrap_or (slice_get cs conn) closed_connection) same
 
-module _ (keys keys2 : Keys) (board board1 board2 : Listed) (moment : ℕ) (op : Op) (reply : Reply) (post : Option Post) (answered : Answered) (in_time : keys.moment ≤ moment)
+module _ (keys keys2 : Keys) (board board1 board2 : BoardValue) (moment : ℕ) (op : Op) (reply : Reply) (post : Option Post) (answered : Answered) (in_time : keys.moment ≤ moment)
     (replies : (objects : Objects) → StandsFor keys objects → reply ≡ reply_of objects (max keys.moment moment) op)
     (posts : (objects : Objects) → StandsFor keys objects → post ≡ post_of objects (max keys.moment moment) op)
     (stands : (objects : Objects) → StandsFor keys objects → StandsFor keys2 (objects_after objects (max keys.moment moment) op))
@@ -90,7 +90,7 @@ module _ (keys keys2 : Keys) (board board1 board2 : Listed) (moment : ℕ) (op :
       }
 
 -- what a call does is what its act does
-pub done_as : {E : Type 0} (result : Result Answered E) (keys keys2 : Keys) (board board2 : Listed) (moment conn : ℕ) (op : Op) (act : Act) → act ≡ acts.Call op
+pub done_as : {E : Type 0} (result : Result Answered E) (keys keys2 : Keys) (board board2 : BoardValue) (moment conn : ℕ) (op : Op) (act : Act) → act ≡ acts.Call op
     → IfOk result (λ a. (state : State) (conn : ℕ) → IsHeld keys board state → IsDone state moment conn (acts.Call op) a keys2 board2)
     → IfOk result (λ a. (state : State) → IsHeld keys board state → IsDone state moment conn act a keys2 board2)
 done_as (Ok a) keys keys2 board board2 moment conn op act is done = λ state held. subst (λ (b : Act). IsDone state moment conn b a keys2 board2) (sym is) (done state conn held)

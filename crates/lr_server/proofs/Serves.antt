@@ -15,7 +15,7 @@ use Rattle.lr_model.specs.Moment.{later}
 use Rattle.lr_model.proofs.Histories.{after-push, IsLegal-push}
 use Rattle.lr_mutex.specs.Stands.{StandsFor}
 use Rattle.lr_mutex.proofs.StandsLemmas.{no_keys_stand}
-use Rattle.lr_pubsub.specs.Listed.{Listed, board_of}
+use Rattle.lr_pubsub.specs.BoardValue.{BoardValue, board_of}
 use Rattle.lr_server.specs.Server.{Known, state_of, connection_of, is_asked}
 use Rattle.lr_server.specs.declared.answered.Answered.{Answered}
 use Rattle.lr_server.specs.Serving.{IsServing, IsHeld, IsDone}
@@ -73,7 +73,7 @@ least_is_free board conn free =
     (first.0, not-true (is_open (board conn)) first.1)
 
 -- a server that has just started
-pub serves_first : (last : ℕ) (entries : List Entry) (keys : Keys) (board : Listed) (spare : ℕ) → last < connection_limit → entries ≡ [] → entry_at keys ≡ (λ _. None) → keys.moment ≡ 0
+pub serves_first : (last : ℕ) (entries : List Entry) (keys : Keys) (board : BoardValue) (spare : ℕ) → last < connection_limit → entries ≡ [] → entry_at keys ≡ (λ _. None) → keys.moment ≡ 0
     → board_of board ≡ (state_at_start last).board → connection_limit ≤ spare → IsServing (record { last = last; entries = entries }) 0 keys board spare
 serves_first last entries keys board spare below none no_keys now listed room =
     subst (λ (es : List Entry). IsServing (record { last = last; entries = es }) 0 keys board spare) (sym none) (record {
@@ -92,7 +92,7 @@ serves_first last entries keys board spare below none no_keys now listed room =
 pub appended : (before after : List Entry) (all : List Entry) (entry : Entry) → all ≡ after ++ entry ∷ [] → after ≡ before → all ≡ before ++ entry ∷ []
 appended before after all entry pushed stayed = pushed ∙ ap (λ (es : List Entry). es ++ entry ∷ []) stayed
 
-module _ (last : ℕ) (entries : List Entry) (moment : ℕ) (keys : Keys) (board : Listed) (spare : ℕ) (serving : IsServing (record { last = last; entries = entries }) moment keys board spare) where
+module _ (last : ℕ) (entries : List Entry) (moment : ℕ) (keys : Keys) (board : BoardValue) (spare : ℕ) (serving : IsServing (record { last = last; entries = entries }) moment keys board spare) where
   abbrev state : State
   state = after (state_at_start last) entries
 
@@ -111,7 +111,7 @@ module _ (last : ℕ) (entries : List Entry) (moment : ℕ) (keys : Keys) (board
       omega (arith, one_fewer conn was_open, serving.closable)
 
   module _ (at caller conn : ℕ) (act : Act) (late : state.moment ≤ at) (early : at ≤ last_moment) (allowed : IsAllowed state conn act)
-      (entries2 : List Entry) (moment2 : ℕ) (keys2 : Keys) (board2 : Listed) (spare2 : ℕ) where
+      (entries2 : List Entry) (moment2 : ℕ) (keys2 : Keys) (board2 : BoardValue) (spare2 : ℕ) where
     abbrev entry : Entry
     entry = record { moment = at; caller = caller; conn = conn; act = act }
 
@@ -143,7 +143,7 @@ module _ (last : ℕ) (entries : List Entry) (moment : ℕ) (keys : Keys) (board
 
   -- As a step leaves it, where the server shows this, and the entry is made at the moment of this reading.
   module _ (known : Known) (shown : record { last = last; entries = entries } ≡ known) (reading at : ℕ) (at_is : at ≡ later (state_of known).moment reading) (early : at ≤ last_moment)
-      (caller conn : ℕ) (entries2 : List Entry) (moment2 : ℕ) (board2 : Listed) (spare2 : ℕ) (now : moment2 ≡ at) where
+      (caller conn : ℕ) (entries2 : List Entry) (moment2 : ℕ) (board2 : BoardValue) (spare2 : ℕ) (now : moment2 ≡ at) where
     is_late : state.moment ≤ at
     is_late = let late : (state_of known).moment ≤ at = omega (arith, at_is) in subst (λ (k : Known). (state_of k).moment ≤ at) (sym shown) late
 

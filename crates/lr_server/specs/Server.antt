@@ -14,7 +14,7 @@ use Rattle.lr_model.specs.Answer.{reply_of, post_of}
 use Rattle.lr_model.specs.Board.{Board, Connection, reached_by, dropped_by, with_channel, without_channel}
 use Rattle.lr_model.specs.History.{State, state_at_start, after}
 use Rattle.lr_history.specs.Limit.{is_refused}
-use Rattle.lr_pubsub.specs.Listed.{is_shut}
+use Rattle.lr_pubsub.specs.Connection.{is_shut}
 use Rattle.lr_server.specs.declared.answered.Answer.{Answer}
 use Rattle.lr_server.specs.declared.answered.Answer.TheVariants as answers
 use Rattle.lr_server.specs.declared.fault.StepFault.{StepFault}

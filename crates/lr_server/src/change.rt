@@ -7,7 +7,7 @@ ghost use Rattle.lr_model.specs.Board.{is_open, board_after_post, reached_by, dr
 ghost use Rattle.lr_model.specs.History.{State};
 ghost use Rattle.lr_limits.specs.Limits.{last_moment};
 ghost use Rattle.lr_mutex.specs.Stands.{StandsFor};
-ghost use Rattle.lr_pubsub.specs.Listed.{board_of};
+ghost use Rattle.lr_pubsub.specs.BoardValue.{board_of};
 ghost use Rattle.lr_server.specs.Server.{act_of, is_asked, may_post, reached_of, dropped_of};
 ghost use Rattle.lr_server.specs.Serving.{IsHeld, IsDone};
 ghost use Rattle.lr_server.specs.declared.answered.Answer.TheVariants as answers;

@@ -6,7 +6,7 @@ ghost use Rattle.lr_model.specs.History.{state_at_start, next_number, CanDrain, 
 ghost use Rattle.lr_history.specs.Limit.{is_refused};
 ghost use Rattle.lr_limits.specs.Limits.{entry_limit, last_moment};
 ghost use Rattle.lr_model.specs.Moment.{later};
-ghost use Rattle.lr_pubsub.specs.Listed.{is_in_flight};
+ghost use Rattle.lr_pubsub.specs.Connection.{is_in_flight};
 ghost use Rattle.lr_server.specs.Server.{state_of, connection_of, moment_at, known_after, known_at, drained_at, act_of, answer_of, post_by, answer_at, post_at, reached_of, dropped_of, fault_of, drain_fault, is_asked, is_only_subscribed, is_stopped, takes_some};
 
 use crate::answered::{Answer, Answered};

@@ -1,22 +1,25 @@
-use Rattle.std.proofs.Common.{◌<◌, ap, ◌∙◌, IsTrue, length}
-use Rattle.lr_model.specs.Board.{is_open}
-use Rattle.lr_pubsub.specs.Kept.{connection_at}
-use Rattle.lr_pubsub.specs.Listed.{board_of}
-use Rattle.lr_pubsub.proofs.Boards.{connection_at-read, board-set, is_open-place, is_open-within, is_open-below, IsKept-left}
+use Rattle.std.proofs.Common.{◌==◌, ap, sym, ◌∙◌, not}
+use Rattle.lr_model.specs.Board.{closed_connection, has_channel, is_open}
+use Rattle.lr_pubsub.specs.BoardValue.{board_of}
+use Rattle.lr_pubsub.proofs.Boards.{IsBoard-set, IsSlot-read, board-changed, listed-left, spare-unusable, stands}
+use Rattle.lr_model.specs.Table.{put}
+use Rattle.lr_pubsub.specs.Connection.{is_usable}
+use Rattle.lr_pubsub.specs.ConnectionSet.{has_number}
 use Rattle.lr_pubsub.proofs.board.Board.close.Goals as goal
-
-there : (c : goal.After-drop-index_mut-2) → IsTrue (is_open (connection_at c.self.inside.slots.items c.args.conn))
-there c = is_open-place c.self.inside.slots.items _ c.args.conn (ap board_of c.self.view_is) c.requires
-
-within : (c : goal.After-drop-index_mut-2) → c.args.conn < length c.self.inside.slots.items
-within c = is_open-within c.self.inside.slots.items c.args.conn (there c)
 
 pub invariant_of-self : goal.invariant_of-self
 invariant_of-self c =
-    let read = connection_at-read c.self.inside.slots.items c.args.conn c.index.result.now (within c) c.index.ensures in
-    IsKept-left c.self.invariant c.args.conn c.closed.result (is_open-below c.self.invariant c.args.conn (there c)) c.leave_all.new.subscribers _ _ c.channels.result.now
-    (c.channels.ensures ∙ ap (λ x. x.channels) read) c.leave_all.ensures (ap (λ x. x.channels) c.closed.ensures)
+    let at = IsSlot-read c.self.invariant (board_of c.args.self.now) (stands _ _ _ c.self.view_is) c.args.conn c.requires c.index.result.now c.index.ensures in
+    let slot = c.closed.result in
+    IsBoard-set c.self.invariant c.args.conn slot at.below c.self.invariant.sent
+    (c.add.ensures ∙ ap (λ x. put ◌==◌ (has_number c.self.inside.free) c.args.conn (not (is_open x))) (sym c.closed.ensures))
+    (listed-left c.self.invariant c.args.conn slot at.below _ c.channels.result.now c.leave_all.ensures
+    (c.channels.ensures ∙ ap (λ s. s.connection.channels) at.is) (ap (λ x. x.channels) c.closed.ensures))
+    (λ channel has. absurd (cc (ap (has_channel channel) c.closed.ensures, has)))
+    (spare-unusable c.self.invariant c.args.conn slot at.below (ap is_usable c.closed.ensures))
 
 pub returns : goal.returns
 returns c =
-    board-set c.self.inside.slots.items c.args.conn c.closed.result _ _ (within c) (ap board_of c.self.view_is) c.closed.ensures
+    let stand = stands _ _ _ c.self.view_is in
+    let at = IsSlot-read c.self.invariant (board_of c.args.self.now) (stands _ _ _ c.self.view_is) c.args.conn c.requires c.index.result.now c.index.ensures in
+    board-changed c.self.inside.slots.items c.args.conn c.closed.result (board_of c.args.self.now) stand at.within _ c.closed.ensures

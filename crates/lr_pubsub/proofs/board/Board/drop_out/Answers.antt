@@ -1,26 +1,25 @@
-use Rattle.std.proofs.Common.{◌<◌, ap, ◌∙◌, IsTrue, length}
-use Rattle.lr_model.specs.Board.{Board, dropped_connection, is_open}
-use Rattle.lr_pubsub.specs.Kept.{connection_at}
-use Rattle.lr_pubsub.specs.Listed.{board_of}
-use Rattle.lr_pubsub.proofs.Boards.{connection_at-read, board-set, is_open-place, is_open-within, is_open-below, IsKept-left}
+use Rattle.std.proofs.Common.{◌&&◌, false, ap, sym, ◌∙◌, not}
+use Rattle.lr_model.specs.Board.{dropped_connection, has_channel, is_open}
+use Rattle.lr_pubsub.specs.BoardValue.{board_of}
+use Rattle.lr_pubsub.proofs.Boards.{IsBoard-set, IsSlot-read, board-changed, free-same, listed-left, spare-unusable, stands}
+use Rattle.lr_pubsub.specs.Connection.{is_usable}
 use Rattle.lr_pubsub.proofs.board.Board.drop_out.Goals as goal
-
-there : (c : goal.After-self-2-1) → IsTrue (is_open (connection_at c.self.inside.slots.items c.args.conn))
-there c = is_open-place c.self.inside.slots.items _ c.args.conn (ap board_of c.self.view_is) c.requires
-
-within : (c : goal.After-self-2-1) → c.args.conn < length c.self.inside.slots.items
-within c = is_open-within c.self.inside.slots.items c.args.conn (there c)
 
 pub invariant_of-self : goal.invariant_of-self
 invariant_of-self c =
-    let read = connection_at-read c.self.inside.slots.items c.args.conn c.index.result.now (within c) c.index.ensures in
-    IsKept-left c.self.invariant c.args.conn c.drop_out.new.self (is_open-below c.self.invariant c.args.conn (there c)) c.leave_all.new.subscribers _ _ c.channels.result.now
-    (c.channels.ensures ∙ ap (λ x. x.channels) read) c.leave_all.ensures (ap (λ x. x.channels) c.drop_out.ensures)
+    let at = IsSlot-read c.self.invariant (board_of c.args.self.now) (stands _ _ _ c.self.view_is) c.args.conn c.requires c.index_mut.result.now c.index_mut.ensures.value in
+    let read = IsSlot-read c.self.invariant (board_of c.args.self.now) (stands _ _ _ c.self.view_is) c.args.conn c.requires c.index.result.now c.index.ensures in
+    let slot = c.drop_out.new.self in
+    IsBoard-set c.self.invariant c.args.conn slot at.below c.self.invariant.sent
+    (free-same c.self.invariant c.args.conn slot at.below (ap is_open c.drop_out.ensures ∙ ap (λ s. is_open s.connection) at.is))
+    (listed-left c.self.invariant c.args.conn slot at.below _ c.channels.result.now c.leave_all.ensures
+    (c.channels.ensures ∙ ap (λ s. s.connection.channels) read.is) (ap (λ x. x.channels) c.drop_out.ensures))
+    (λ channel has. absurd (cc (ap (has_channel channel) c.drop_out.ensures, has)))
+    (spare-unusable c.self.invariant c.args.conn slot at.below (ap is_usable c.drop_out.ensures ∙ ap (λ b. b && false) at.open_))
 
 pub returns : goal.returns
 returns c =
-    let places = c.self.inside.slots.items in
-    let read = connection_at-read places c.args.conn c.index_mut.result.now (within c) c.index_mut.ensures.value in
-    let shows = ap board_of c.self.view_is in
-    board-set places c.args.conn c.drop_out.new.self _ _ (within c) shows
-    (c.drop_out.ensures ∙ ap dropped_connection (read ∙ ap (λ (b : Board). b c.args.conn) shows))
+    let stand = stands _ _ _ c.self.view_is in
+    let at = IsSlot-read c.self.invariant (board_of c.args.self.now) (stands _ _ _ c.self.view_is) c.args.conn c.requires c.index_mut.result.now c.index_mut.ensures.value in
+    board-changed c.self.inside.slots.items c.args.conn c.drop_out.new.self (board_of c.args.self.now) stand at.within _
+    (c.drop_out.ensures ∙ ap dropped_connection at.stands)
