@@ -1,1 +1,4 @@
+pub mod VerbLaws
+pub mod WordLaws
+pub mod ArgumentLaws
 pub mod EventLaws

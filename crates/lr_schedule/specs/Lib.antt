@@ -1,2 +1,2 @@
 pub mod Spelled
-pub mod Shown
+pub mod Explanation

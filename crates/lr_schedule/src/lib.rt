@@ -1,14 +1,20 @@
 //! The spelling of a schedule: which event a line is, and what is written of it.
 #![tactic(auto)]
 
+mod arguments;
+mod explanation;
+mod fault;
 mod laws;
+mod quotation;
 mod read;
+mod reader;
 mod spelled;
 #[cfg(test)]
 mod tests;
+mod verb;
 mod write;
 
+pub use explanation::explain;
 pub use laws::one_reading;
 pub use read::read_line;
-pub use spelled::{MOST_CLIENTS, MOST_EVENTS};
 pub use write::{write_bad, write_shown, write_too_many};

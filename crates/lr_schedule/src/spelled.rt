@@ -1,18 +1,13 @@
-ghost use Rattle.std.specs.Prelude.{◌≡◌, ◌↔◌, ◌≤◌, ℕ, IsTrue, IsNone, IfSome};
+ghost use Rattle.std.specs.Prelude.{◌≡◌, ◌↔◌, ◌≤◌, ℕ, IsTrue, IsErr, IfOk};
 ghost use Rattle.lr_names.specs.Owner.{IsThread};
 ghost use Rattle.lr_model.specs.Within.{IsClient, IsWithin};
 ghost use Rattle.lr_schedule.specs.Spelled.{event_of, AreWithin, IsLimited};
 
-use lr_limits::MOST_THREADS;
+use crate::fault::Outside;
+use lr_limits::{MOST_CLIENTS, MOST_EVENTS, MOST_THREADS};
 use lr_model::{Event, ScheduleLine, ThreadId};
 use lr_names::Name;
 use lr_objects::{Mode, Want};
-
-/// How many events a schedule has at most.
-pub const MOST_EVENTS: u64 = 1_000_000;
-
-/// The greatest number of a client.
-pub const MOST_CLIENTS: u32 = 64;
 
 /// A client and a thread as a line spells them: they may be outside the limits.
 #[derive(Clone, Copy)]
@@ -21,23 +16,6 @@ pub struct Who {
     pub client: u64,
     /// The number of the thread.
     pub thread: u64,
-}
-
-/// What an event does, without whom and what it does it to.
-#[derive(Clone, Copy)]
-pub enum Verb {
-    /// A thread begins a request.
-    Begin,
-    /// The thread's call is sent.
-    Ask,
-    /// The server executes the thread's call.
-    Exec,
-    /// The thread takes the reply.
-    Take,
-    /// The clock shows a moment.
-    Tick,
-    /// An operator takes a lock away.
-    Force,
 }
 
 /// An event as a line spells it.
@@ -58,16 +36,20 @@ pub enum Spelled {
 }
 
 impl Who {
-    // The thread of the client: `None` exactly outside the limits.
-    fn thread_id(&self) -> Option<ThreadId>
-        ensures some { IfSome result (λ id. (id.client ≡ self.now.client) × (id.thread ≡ self.now.thread)) }
-        ensures within { IfSome result (λ id. IsClient id.client × IsThread id.thread) }
-        ensures none { IsNone result → ¬ AreWithin self.now }
+    // The thread of the client: an error exactly outside the limits.
+    fn thread_id(&self) -> Result<ThreadId, Outside>
+        ensures some { IfOk result (λ id.
+            (id.client ≡ self.now.client) × (id.thread ≡ self.now.thread)) }
+        ensures within { IfOk result (λ id. IsClient id.client × IsThread id.thread) }
+        ensures none { IsErr result → ¬ AreWithin self.now }
     {
-        if !is_client(self.client) || !is_thread(self.thread) {
-            return None;
+        if !is_client(self.client) {
+            return Err(Outside::Client(self.client));
         }
-        Some(ThreadId {
+        if !is_thread(self.thread) {
+            return Err(Outside::Thread(self.thread));
+        }
+        Ok(ThreadId {
             client: self.client as u32,
             thread: self.thread as u32,
         })
@@ -87,16 +69,16 @@ fn is_thread(number: u64) -> bool
 }
 
 impl Spelled {
-    // The event: `None` exactly where it names a client or a thread outside the limits.
-    fn event(&self) -> Option<Event>
-        ensures some { IfSome result (λ event. event ≡ event_of self.now) }
-        ensures within { IfSome result IsWithin }
-        ensures none { IsNone result → ¬ IsWithin (event_of self.now) }
+    /// The event: an error exactly where it names a client or a thread outside the limits.
+    pub fn event(&self) -> Result<Event, Outside>
+        ensures some { IfOk result (λ event. event ≡ event_of self.now) }
+        ensures within { IfOk result IsWithin }
+        ensures none { IsErr result → ¬ IsWithin (event_of self.now) }
     {
         match self {
             Spelled::Begin(who, want) => {
                 let ThreadId { client, thread } = who.thread_id()?;
-                Some(Event::Begin {
+                Ok(Event::Begin {
                     client,
                     thread,
                     mode: Mode::Once,
@@ -105,18 +87,18 @@ impl Spelled {
             }
             Spelled::Ask(who) => {
                 let ThreadId { client, thread } = who.thread_id()?;
-                Some(Event::Ask { client, thread })
+                Ok(Event::Ask { client, thread })
             }
             Spelled::Exec(who) => {
                 let ThreadId { client, thread } = who.thread_id()?;
-                Some(Event::Exec { client, thread })
+                Ok(Event::Exec { client, thread })
             }
             Spelled::Take(who) => {
                 let ThreadId { client, thread } = who.thread_id()?;
-                Some(Event::Take { client, thread })
+                Ok(Event::Take { client, thread })
             }
-            Spelled::Tick(moment) => Some(Event::Tick(*moment)),
-            Spelled::Force(name) => Some(Event::Force(*name)),
+            Spelled::Tick(moment) => Ok(Event::Tick(*moment)),
+            Spelled::Force(name) => Ok(Event::Force(*name)),
         }
     }
 
@@ -125,7 +107,7 @@ impl Spelled {
         ensures { IsLimited number (event_of self.now) result }
     {
         match self.event() {
-            Some(event) if number <= MOST_EVENTS => ScheduleLine::Event(event),
+            Ok(event) if number <= MOST_EVENTS => ScheduleLine::Event(event),
             _ => ScheduleLine::TooMany,
         }
     }

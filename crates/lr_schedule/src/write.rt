@@ -1,7 +1,6 @@
 ghost use Rattle.std.specs.Prelude.{◌≡◌, ◌+◌, ◌≤◌, length, ◌++◌, decimal, OnOk, OnErr};
-ghost use Rattle.lr_objects.specs.Reply.{reply_text};
+ghost use Rattle.lr_objects.specs.Reply.{number_text, reply_text};
 ghost use Rattle.lr_model.specs.Transcript.{post_text, found_word, shown_text, shown_line, bad_line, too_many_line};
-ghost use Rattle.lr_schedule.specs.Shown.{reply_word};
 
 use itoa::Buffer;
 use lr_model::{Found, Reached, Replied, Shown};
@@ -9,13 +8,14 @@ use lr_objects::Reply;
 use lr_text::{ShortText, Text};
 use std::alloc::AllocError;
 
-/// More bytes than a line of a transcript has.
-const LINE_BYTES: usize = 256;
+/// The room for a line of a transcript, in bytes: more than any line has.
+const TRANSCRIPT_BYTES: usize = 256;
 
 /// A line of a transcript while it is made: a whole line is appended, or nothing.
-type Line = ShortText<LINE_BYTES>;
+type Line = ShortText<TRANSCRIPT_BYTES>;
 
-/// Appends the line of the event with this number: what is shown of it. An error leaves the text as it was.
+/// Appends the line of the event with this number: what is shown of it. An error leaves the text as
+/// it was.
 pub fn write_shown(out: &mut Text, number: u64, shown: &Shown) -> Result<(), AllocError>
     ensures ok { OnOk result (out.new ≡ out.old ++ shown_line number shown.now) }
     ensures err { OnErr result (out.new ≡ out.old) }
@@ -28,7 +28,8 @@ pub fn write_shown(out: &mut Text, number: u64, shown: &Shown) -> Result<(), All
     out.push_bytes(line.as_slice())
 }
 
-/// Appends what ends a transcript at a bad line with this number. An error leaves the text as it was.
+/// Appends what ends a transcript at a bad line with this number. An error leaves the text as it
+/// was.
 pub fn write_bad(out: &mut Text, number: u64) -> Result<(), AllocError>
     ensures ok { OnOk result (out.new ≡ out.old ++ bad_line number) }
     ensures err { OnErr result (out.new ≡ out.old) }
@@ -40,8 +41,8 @@ pub fn write_bad(out: &mut Text, number: u64) -> Result<(), AllocError>
     out.push_bytes(line.as_slice())
 }
 
-/// Appends what ends a transcript at a line with this number that is outside the limits. An error leaves
-/// the text as it was.
+/// Appends what ends a transcript at a line with this number that is outside the limits. An error
+/// leaves the text as it was.
 pub fn write_too_many(out: &mut Text, number: u64) -> Result<(), AllocError>
     ensures ok { OnOk result (out.new ≡ out.old ++ too_many_line number) }
     ensures err { OnErr result (out.new ≡ out.old) }
@@ -79,7 +80,8 @@ fn push_shown(line: &mut Line, shown: &Shown)
 
 fn push_replied(line: &mut Line, replied: &Replied)
     requires { length line.old ≤ 30 }
-    ensures text { line.new ≡ line.old ++ (reply_text replied.now.reply ++ post_text replied.now.post) }
+    ensures text { line.new
+        ≡ line.old ++ (reply_text replied.now.reply ++ post_text replied.now.post) }
     ensures short { length line.new ≤ length line.old + 200 }
 {
     push_reply(line, &replied.reply);
@@ -102,12 +104,21 @@ fn push_post(line: &mut Line, post: &Option<Reached>)
 fn push_reply(line: &mut Line, reply: &Reply)
     requires { length line.old ≤ 200 }
     ensures text { line.new ≡ line.old ++ reply_text reply.now }
-    ensures short { length line.new ≤ length line.old + 30 }
+    ensures short { length line.new ≤ length line.old + 33 }
 {
-    line.push_bytes(reply_word(reply));
-    if let Reply::Busy(remaining) = reply {
+    line.push_bytes(reply.word());
+    push_told(line, reply.number());
+}
+
+// The number that a reply tells besides its word.
+fn push_told(line: &mut Line, number: Option<u64>)
+    requires { length line.old ≤ 212 }
+    ensures text { line.new ≡ line.old ++ number_text number }
+    ensures short { length line.new ≤ length line.old + 21 }
+{
+    if let Some(number) = number {
         line.push_bytes(b" ");
-        push_number(line, remaining.millis());
+        push_number(line, number);
     }
 }
 
@@ -118,24 +129,6 @@ fn push_number(line: &mut Line, number: u64)
 {
     let mut digits = Buffer::new();
     line.push_bytes(digits.format(number).as_bytes());
-}
-
-// The first word of a reply's text.
-fn reply_word(reply: &Reply) -> &'static [u8]
-    ensures word { result.now ≡ reply_word reply.now }
-    ensures short { length result.now ≤ 9 }
-{
-    match reply {
-        Reply::Granted => b"granted",
-        Reply::Busy(_) => b"busy",
-        Reply::Kept => b"kept",
-        Reply::Freed => b"freed",
-        Reply::NotHeld => b"not-held",
-        Reply::Renewed => b"renewed",
-        Reply::Lost => b"lost",
-        Reply::TooDeep => b"too-deep",
-        Reply::BadLease => b"bad-lease",
-    }
 }
 
 fn found_word(found: Found) -> &'static [u8]

@@ -1,0 +1,141 @@
+-- Words give back what a function is given, and the want of it.
+use Rattle.std.proofs.Common.{◌≡◌, ℕ, ◌<◌, ◌^◌, List, [], ◌++◌, get_or, replicate, unwrap_or, decimal, sym, ap, ◌∙◌}
+use Rattle.std.specs.Str.Parse.{AllDigits, digits_value}
+use Rattle.std.proofs.lemmas.Fmt.{digits_value-decimal}
+use Rattle.std.proofs.lemmas.Str.Parse.{numerals_by_value, tells_digits}
+use Rattle.uuid.specs.Text.{parsed}
+use Rattle.lr_text.specs.WordTable.{with_word}
+use Rattle.lr_names.specs.Owner.{IsId, id_text}
+use Rattle.lr_names.proofs.OwnerLaws.{parsed-id_text}
+use Rattle.lr_objects.specs.declared.function.Function.{Function}
+use Rattle.lr_objects.specs.declared.function.Function.TheVariants.{LockTry}
+use Rattle.lr_objects.specs.declared.function.TheConstants.Function.{ALL}
+use Rattle.lr_objects.specs.declared.function.Arguments.{Arguments}
+use Rattle.lr_objects.specs.declared.function.Arguments.TheVariants as arguments
+use Rattle.lr_objects.specs.declared.want.Lease.{Lease}
+use Rattle.lr_objects.specs.declared.want.Lease.TheVariants as leases
+use Rattle.lr_objects.specs.declared.want.Want.{Want}
+use Rattle.lr_objects.specs.Function.{function_word, arguments_of}
+use Rattle.lr_objects.specs.Want.{lease_word, argument_words}
+use Rattle.lr_objects.proofs.FunctionLaws.{IsWordTable-function_word}
+use Rattle.lr_model.specs.EventText.{IsMillis, LeaseFits, NumberFits, IdFits, IsSpelled}
+
+-- the number of a word
+pub value : List ℕ → ℕ
+value word = digits_value 10 word
+
+pub value-decimal : (n : ℕ) → n < 2 ^ 64 → value (decimal n) ≡ n
+unfolding value
+value-decimal n small =
+    digits_value-decimal (numerals_by_value (AllDigits 10) tells_digits) n small
+
+-- the id of a word
+id_of : List ℕ → List ℕ
+id_of word = unwrap_or (parsed word) []
+
+id_of-id_text : (id : List ℕ) → IsId id → id_of (id_text id) ≡ id
+unfolding id_of
+id_of-id_text id h = sym (ap (λ o. unwrap_or o []) (parsed-id_text id h))
+
+-- the function of a word
+pub function_of : List ℕ → Function
+function_of word = unwrap_or (with_word function_word ALL word) LockTry
+
+function_of-word : (function : Function) → function_of (function_word function) ≡ function
+unfolding function_of
+function_of-word function = ap (λ o. unwrap_or o LockTry) (IsWordTable-function_word function)
+
+-- the lease of a word
+lease_of-word : (lease : Lease) → IsMillis lease
+    → leases.For (value (lease_word lease)) ≡ lease
+lease_of-word lease h =
+    ap (λ l. leases.For (value (lease_word l))) h.1
+    ∙ ap leases.For (value-decimal h.0 h.2) ∙ sym h.1
+
+-- the word at a place
+abbrev pub at : List (List ℕ) → ℕ → List ℕ
+at words place = get_or words place []
+
+-- what a function is given, from the words that begin with it
+lease_in : Arguments → List (List ℕ) → Lease
+lease_in arguments.Lease words = leases.For (value (at words 0))
+lease_in arguments.IdAndLease words = leases.For (value (at words 1))
+lease_in _ words = leases.For 0
+
+number_in : Arguments → List (List ℕ) → ℕ
+number_in arguments.Number words = value (at words 0)
+number_in _ words = 0
+
+id_in : Arguments → List (List ℕ) → List ℕ
+id_in arguments.Id words = id_of (at words 0)
+id_in arguments.IdAndLease words = id_of (at words 0)
+id_in _ words = replicate 16 0
+
+lease_in-words : (a : Arguments) (want : Want) (rest : List (List ℕ)) → LeaseFits a want.lease
+    → lease_in a (argument_words a want ++ rest) ≡ want.lease
+unfolding lease_in
+lease_in-words arguments.Lease want rest h = lease_of-word want.lease h
+lease_in-words arguments.Number want rest h = sym h
+lease_in-words arguments.Nothing want rest h = sym h
+lease_in-words arguments.Id want rest h = sym h
+lease_in-words arguments.IdAndLease want rest h = lease_of-word want.lease h
+
+number_in-words : (a : Arguments) (want : Want) (rest : List (List ℕ)) → NumberFits a want.number
+    → number_in a (argument_words a want ++ rest) ≡ want.number
+unfolding number_in
+number_in-words arguments.Lease want rest h = sym h
+number_in-words arguments.Number want rest h = value-decimal want.number h
+number_in-words arguments.Nothing want rest h = sym h
+number_in-words arguments.Id want rest h = sym h
+number_in-words arguments.IdAndLease want rest h = sym h
+
+id_in-words : (a : Arguments) (want : Want) (rest : List (List ℕ)) → IdFits a want.id
+    → id_in a (argument_words a want ++ rest) ≡ want.id
+unfolding id_in
+id_in-words arguments.Lease want rest h = sym h
+id_in-words arguments.Number want rest h = sym h
+id_in-words arguments.Nothing want rest h = sym h
+id_in-words arguments.Id want rest h = id_of-id_text want.id h
+id_in-words arguments.IdAndLease want rest h = id_of-id_text want.id h
+
+-- the want of a function, from its name and the words behind that
+pub want_in : Function → List ℕ → List (List ℕ) → Want
+want_in function name words =
+    let a = arguments_of function in record {
+      function = function;
+      name = name;
+      lease = lease_in a words;
+      number = number_in a words;
+      id = id_in a words;
+    }
+
+want_of_parts : (want : Want) (lease : Lease) (number : ℕ) (id : List ℕ)
+    → lease ≡ want.lease → number ≡ want.number → id ≡ want.id
+    → record {
+      function = want.function;
+      name = want.name;
+      lease = lease;
+      number = number;
+      id = id;
+    } ≡ want
+want_of_parts want lease number id lease_is number_is id_is =
+    let with_parts : Lease → ℕ → List ℕ → Want = λ l n i. record {
+      function = want.function;
+      name = want.name;
+      lease = l;
+      number = n;
+      id = i;
+    } in
+    ap (λ l. with_parts l number id) lease_is ∙ ap (λ n. with_parts want.lease n id) number_is
+    ∙ ap (with_parts want.lease want.number) id_is
+
+-- the words of a want give it back, whatever stands behind them
+pub want_in-words : (want : Want) (rest : List (List ℕ)) → IsSpelled want
+    → want_in (function_of (function_word want.function)) want.name
+    (argument_words (arguments_of want.function) want ++ rest) ≡ want
+unfolding want_in
+want_in-words want rest h =
+    let a = arguments_of want.function in
+    rw (function_of-word want.function) (want_of_parts want _ _ _
+    (lease_in-words a want rest h.lease) (number_in-words a want rest h.number)
+    (id_in-words a want rest h.id))

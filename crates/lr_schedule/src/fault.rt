@@ -1,0 +1,45 @@
+/// What a line should have at the place of a word, and doesn't have.
+#[derive(Clone, Copy)]
+pub enum Expected {
+    /// The word of a verb.
+    Verb,
+    /// The number of a client.
+    Client,
+    /// The number of a thread.
+    Thread,
+    /// The mode `once`.
+    Mode,
+    /// A function with which a request can begin.
+    Function,
+    /// The name of an object.
+    Name,
+    /// A lease in milliseconds.
+    Lease,
+    /// A number of permits or counts.
+    Amount,
+    /// The id of a permit.
+    Id,
+    /// A moment that a clock can show.
+    Moment,
+    /// Nothing: the line should be over.
+    End,
+}
+
+/// Where a line stops being the text of an event.
+#[derive(Clone, Copy)]
+pub struct Fault {
+    /// The place of the word, counted from 1. Where a word is missing it is one more than the line
+    /// has words.
+    pub place: u64,
+    /// What should stand there.
+    pub expected: Expected,
+}
+
+/// Which limit an event is outside of.
+#[derive(Clone, Copy)]
+pub enum Outside {
+    /// This number is that of no client.
+    Client(u64),
+    /// This number is that of no thread.
+    Thread(u64),
+}
