@@ -11,19 +11,26 @@ use Rattle.lr_server.specs.Server.{is_asked, is_only_subscribed, is_stopped}
 
 none_of : (channels : List ChannelOf) → nat_le 1 (length channels) ≡ false → channels ≡ []
 none_of [] few = refl
-none_of (channel ∷ channels) few = absurd (omega (arith, leb-false 1 (length (channel ∷ channels)) few))
+none_of (channel ∷ channels) few =
+    absurd (omega (arith, leb-false 1 (length (channel ∷ channels)) few))
 
-acknowledges : (connection : Connection) → IsTrue (is_open connection) → is_shut connection ≡ false → CanAcknowledge connection
+acknowledges : (connection : Connection) → IsTrue (is_open connection)
+    → is_shut connection ≡ false → CanAcknowledge connection
 acknowledges connection opened takes =
-    let parts : (connection.dropped ≡ false) × (not (has_room connection) ≡ false) = or_parts connection.dropped (not (has_room connection)) takes in
+    let parts = or_parts connection.dropped (not (has_room connection)) takes in
     record { open_ = opened; kept = parts.0; room = not-false (has_room connection) parts.1 }
 
 -- what nothing stops is allowed
-pub is_allowed : (state : State) (conn : ℕ) (act : Act) → IsTrue (is_open (state.board conn)) → IsTrue (is_asked act)
-    → is_only_subscribed act (state.board conn) ≡ false → is_stopped act (state.board conn) ≡ false → IsAllowed state conn act
-is_allowed state conn (Call op) opened asked quiet runs = record { open_ = opened; kept = runs; quiet = none_of (state.board conn).channels quiet }
-is_allowed state conn (Subscribe channel) opened asked quiet runs = acknowledges (state.board conn) opened runs
-is_allowed state conn (Unsubscribe channel) opened asked quiet runs = acknowledges (state.board conn) opened runs
-is_allowed state conn Open opened asked quiet runs = absurd (false≢true asked)
-is_allowed state conn Close opened asked quiet runs = absurd (false≢true asked)
-is_allowed state conn (Drain most) opened asked quiet runs = absurd (false≢true asked)
+pub is_allowed : (state : State) (conn : ℕ) (act : Act) → IsTrue (is_open (state.board conn))
+    → IsTrue (is_asked act) → is_only_subscribed act (state.board conn) ≡ false
+    → is_stopped act (state.board conn) ≡ false → IsAllowed state conn act
+is_allowed state conn (Call op) opened asked quiet runs = record {
+  open_ = opened;
+  kept = runs;
+  quiet = none_of (state.board conn).channels quiet;
+}
+is_allowed state conn (Subscribe channel) opened asked quiet runs =
+    acknowledges (state.board conn) opened runs
+is_allowed state conn (Unsubscribe channel) opened asked quiet runs =
+    acknowledges (state.board conn) opened runs
+is_allowed state conn _ opened asked quiet runs = absurd (false≢true asked)

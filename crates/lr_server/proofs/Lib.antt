@@ -1,4 +1,7 @@
 pub mod Allowed
-pub mod Calls
+pub mod Done
+pub mod KindLaws
 pub mod Numbers
+pub mod Runs
 pub mod Serves
+pub mod Stays

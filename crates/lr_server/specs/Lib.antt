@@ -1,3 +1,4 @@
 pub mod Server
+pub mod Stands
+pub mod Done
 pub mod Serving
-pub mod Fault

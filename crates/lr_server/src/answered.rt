@@ -12,7 +12,8 @@ pub enum Answer {
     Reply(Reply),
     /// The acknowledgement waits in the outbox of the connection, which now has so many channels.
     Queued(u32),
-    /// A connection that has a channel only subscribes, leaves channels, and ends. Nothing was done.
+    /// A connection that has a channel only subscribes, leaves channels, and ends. Nothing was
+    /// done.
     OnlySubscribed,
 }
 
@@ -31,8 +32,11 @@ pub struct Answered {
 
 impl Answered {
     /// An answer without a message.
-    pub(crate) fn of(alloc: Global, answer: Answer) -> Self
-        ensures { (result.answer ≡ answer) × (result.post ≡ None) × (result.reached ≡ 0) × (result.dropped ≡ []) }
+    pub(crate) fn without_post(alloc: Global, answer: Answer) -> Self
+        ensures answer { result.answer ≡ answer }
+        ensures post { result.post ≡ None }
+        ensures reached { result.reached ≡ 0 }
+        ensures dropping { result.dropped ≡ [] }
     {
         Answered {
             answer,

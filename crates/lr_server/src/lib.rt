@@ -1,10 +1,12 @@
-//! One state of the server: keys, connections with their channels and outboxes, and the stored history. Each
-//! request is one step, which makes at most one entry of the history.
+//! One state of the server: keys, connections with their channels and outboxes, and the stored
+//! history. Each request is one step, which makes at most one entry of the history.
 #![tactic(auto)]
 
+mod act;
 mod answered;
-mod change;
+mod calls;
 mod fault;
+mod keys_and_board;
 mod state;
 
 pub use answered::{Answer, Answered};

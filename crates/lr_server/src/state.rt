@@ -1,30 +1,33 @@
-ghost use Rattle.std.specs.Prelude.{◌≡◌, ◌≢◌, ◌↔◌, ◌<◌, ◌≤◌, ◌+◌, ◌++◌, ◌∷◌, false, nat_le, [], Some, IsTrue, IsSome, length, take, IsOk, IfOk, OnOk, OnErr};
+ghost use Rattle.std.specs.Prelude.{◌≡◌, ◌≢◌, ◌↔◌, ◌<◌, ◌≤◌, ◌+◌, ◌++◌, ◌∷◌, false, nat_le, [], Some, IsTrue, IsSome, length, IsOk, IfOk, OnOk, OnErr};
+ghost use Rattle.lr_limits.specs.Limits.{connection_limit, entry_limit, last_moment};
 ghost use Rattle.lr_model.specs.declared.entry.Act.{Act};
 ghost use Rattle.lr_model.specs.declared.entry.Act.TheVariants as acts;
 ghost use Rattle.lr_model.specs.Board.{is_open, free_numbers};
-ghost use Rattle.lr_model.specs.History.{state_at_start, next_number, CanDrain, IsAllowed, IsLegal};
+ghost use Rattle.lr_model.specs.History.{Opens, Closes, HandsOut, state_at_start, result_of, CanDrain, IsAllowed, IsLegal};
 ghost use Rattle.lr_history.specs.Limit.{is_refused};
-ghost use Rattle.lr_limits.specs.Limits.{entry_limit, last_moment};
-ghost use Rattle.lr_model.specs.Moment.{later};
 ghost use Rattle.lr_pubsub.specs.Connection.{is_in_flight};
-ghost use Rattle.lr_server.specs.Server.{state_of, connection_of, moment_at, known_after, known_at, drained_at, act_of, answer_of, post_by, answer_at, post_at, reached_of, dropped_of, fault_of, drain_fault, is_asked, is_only_subscribed, is_stopped, takes_some};
+ghost use Rattle.lr_server.specs.Server.{state_of, connection_of, with_entry, moment_at, entry_of, act_of, is_asked, is_only_subscribed, is_stopped, takes_some, entry_made, drain_made, with_made, result_made, post_made, reached_of, dropped_of, told_by, IsTold, IsHandedOut, fault_of, drain_fault};
 
+use crate::act::act_of;
 use crate::answered::{Answer, Answered};
-use crate::change::{act_of, change};
 use crate::fault::StepFault;
+use crate::keys_and_board::make;
 use lr_commands::Request;
-use lr_history::{Act, Entry, History, MOST_ENTRIES};
+use lr_history::{Act, Entry, History};
 use lr_keys::KeySpace;
-use lr_limits::LAST_MOMENT;
+use lr_limits::{LAST_MOMENT, MOST_CONNECTIONS, MOST_ENTRIES};
 use lr_names::Channel;
 use lr_pubsub::{Board, Pushes};
 use std::alloc::{AllocError, Global};
 use std::marker::Model;
 
 /// So many entries find room before each step: its own, and a close of each connection behind it.
-const ROOM: u64 = 257;
+const ROOM: u64 = 1 + MOST_CONNECTIONS as u64;
 
 /// A server: its keys, its connections, and all that it did since it started.
+///
+/// Each step comes at a reading of the clock, in milliseconds, and for a caller. Its moment is the
+/// reading, or that of the last step where that is later; time ends at 9,007,199,254,740,991.
 #[derive(Drop)]
 pub struct ServerState {
     alloc: Global,
@@ -37,10 +40,10 @@ pub struct ServerState {
 }
 
 impl Model for ServerState {
-    ghost use Rattle.lr_server.specs.Server.{Known};
+    ghost use Rattle.lr_server.specs.Server.{ServerValue};
     ghost use Rattle.lr_server.specs.Serving.{IsServing};
 
-    ghost Value = { Known };
+    ghost Value = { ServerValue };
 
     ghost view = { λ s. record { last = s.last; entries = s.history.entries } };
 
@@ -49,9 +52,10 @@ impl Model for ServerState {
 }
 
 impl ServerState {
-    /// A server at moment 0 with an empty history and the connections 0 to `last` open, by caller 0.
+    /// A server at moment 0 with an empty history and the connections 0 to `last` open, by caller
+    /// 0.
     pub fn new(alloc: Global, last: u32) -> Result<Self, AllocError>
-        requires { last < 256 }
+        requires { last < connection_limit }
         ensures { IfOk result (λ s. s ≡ record { last = last; entries = [] }) }
     {
         let mut history = History::new(alloc)?;
@@ -66,16 +70,20 @@ impl ServerState {
         })
     }
 
-    /// Opens a connection for a caller, and gives its number: the least that is free. `TooManyConnections` comes
-    /// exactly where 256 are open, and `HistoryFull` exactly where fewer are and the history takes only closes. An
-    /// error changes nothing.
-    pub fn open(&mut self, moment: u64, caller: u64) -> Result<u32, StepFault>
-        ensures number { IfOk result (λ conn. conn ≡ next_number (state_of self.old).board) }
-        ensures entry { OnOk result (self.new
-            ≡ known_after self.old moment caller (next_number (state_of self.old).board) acts.Open) }
-        ensures too_many { (result ≡ Err StepFault.TooManyConnections) ↔ (free_numbers (state_of self.old).board ≡ []) }
+    /// Opens a connection for a caller, and gives its number: the least that is free.
+    ///
+    /// `TooManyConnections` comes exactly where 256 are open, and `HistoryFull` exactly where
+    /// fewer are and the history takes only closes. An error changes nothing.
+    pub fn open(&mut self, reading: u64, caller: u64) -> Result<u32, StepFault>
+        ensures number { IfOk result (λ conn. Opens conn
+            ≡ result_of (state_of self.old) (entry_of self.old reading caller conn acts.Open)) }
+        ensures entry { IfOk result (λ conn. self.new
+            ≡ with_entry self.old (entry_of self.old reading caller conn acts.Open)) }
+        ensures too_many { (result ≡ Err StepFault.TooManyConnections)
+            ↔ (free_numbers (state_of self.old).board ≡ []) }
         ensures full { (result ≡ Err StepFault.HistoryFull)
-            ↔ (free_numbers (state_of self.old).board ≢ []) × IsTrue (is_refused self.old.entries acts.Open) }
+            ↔ (free_numbers (state_of self.old).board ≢ [])
+            × IsTrue (is_refused self.old.entries acts.Open) }
         ensures not_dropped { result ≢ Err StepFault.Dropped }
         ensures err { OnErr result (self.new ≡ self.old) }
     {
@@ -85,81 +93,93 @@ impl ServerState {
         if self.is_full() {
             return Err(StepFault::HistoryFull);
         }
-        let at = self.later(moment);
+        let entry = self.entry(reading, caller, conn, Act::Open);
         self.history.reserve(ROOM)?;
         self.board.open(conn, caller);
-        let act = Act::Open;
-        append(
-            &mut self.history,
-            &mut self.moment,
-            Entry {
-                moment: at,
-                caller,
-                conn,
-                act,
-            },
-        );
+        append(&mut self.history, &mut self.moment, entry);
         Ok(conn)
     }
 
-    /// Does what a request of an open connection asks, for a caller. It is a call, or one channel is subscribed to
-    /// or left.
+    /// Does what a request of an open connection asks, for a caller. It is a call, or one channel
+    /// is subscribed to or left.
     ///
-    /// `OnlySubscribed` is answered exactly where a connection that has a channel calls; it makes no entry. Of the
-    /// faults, `HistoryFull` comes exactly where an entry would be made and the history takes only closes; else
-    /// `Dropped` exactly where the connection was dropped, or should send an acknowledgement and its outbox is
-    /// full. An error changes nothing.
+    /// `OnlySubscribed` is answered exactly where a connection that has a channel calls; it makes
+    /// no entry. Of the faults, `HistoryFull` comes exactly where an entry would be made and the
+    /// history takes only closes; else `Dropped` exactly where the connection was dropped, or
+    /// should send an acknowledgement and its outbox is full. An error changes nothing.
     pub fn step(
         &mut self,
-        moment: u64,
+        reading: u64,
         caller: u64,
         conn: u32,
         request: &Request,
     ) -> Result<Answered, StepFault>
         requires open { IsTrue (is_open (connection_of self.old conn)) }
         requires request { IsSome (act_of request.now) }
-        ensures answer { (act : Act) → act_of request.now ≡ Some act
-            → IfOk result (λ a. a.answer ≡ answer_at self.old moment conn act) }
-        ensures post { (act : Act) → act_of request.now ≡ Some act
-            → IfOk result (λ a. a.post ≡ post_at self.old moment conn act) }
-        ensures reached { (act : Act) → act_of request.now ≡ Some act
-            → IfOk result (λ a. a.reached ≡ reached_of (post_at self.old moment conn act) (state_of self.old).board) }
-        ensures dropping { (act : Act) → act_of request.now ≡ Some act
-            → IfOk result (λ a. a.dropped ≡ dropped_of (post_at self.old moment conn act) (state_of self.old).board) }
-        ensures entry { (act : Act) → act_of request.now ≡ Some act
-            → OnOk result (self.new ≡ known_at self.old moment caller conn act) }
+        ensures answer { (act : Act) → act_of request.now ≡ Some act → IfOk result (λ a.
+            let made = entry_made self.old reading caller conn act in
+            told_by a.answer ≡ result_made self.old made) }
+        ensures post { (act : Act) → act_of request.now ≡ Some act → IfOk result (λ a.
+            let made = entry_made self.old reading caller conn act in
+            a.post ≡ post_made self.old made) }
+        ensures reached { (act : Act) → act_of request.now ≡ Some act → IfOk result (λ a.
+            let made = entry_made self.old reading caller conn act in
+            a.reached ≡ reached_of (post_made self.old made) (state_of self.old).board) }
+        ensures dropping { (act : Act) → act_of request.now ≡ Some act → IfOk result (λ a.
+            let made = entry_made self.old reading caller conn act in
+            a.dropped ≡ dropped_of (post_made self.old made) (state_of self.old).board) }
+        ensures entry { (act : Act) → act_of request.now ≡ Some act → OnOk result (
+            self.new ≡ with_made self.old (entry_made self.old reading caller conn act)) }
 
         // Each fault but want of memory has its cause.
         ensures full { (act : Act) → act_of request.now ≡ Some act
-            → (result ≡ Err StepFault.HistoryFull) ↔ (fault_of self.old conn act ≡ Some StepFault.HistoryFull) }
+            → (result ≡ Err StepFault.HistoryFull)
+            ↔ (fault_of self.old conn act ≡ Some StepFault.HistoryFull) }
         ensures dropped { (act : Act) → act_of request.now ≡ Some act
-            → (result ≡ Err StepFault.Dropped) ↔ (fault_of self.old conn act ≡ Some StepFault.Dropped) }
+            → (result ≡ Err StepFault.Dropped)
+            ↔ (fault_of self.old conn act ≡ Some StepFault.Dropped) }
         ensures not_too_many { result ≢ Err StepFault.TooManyConnections }
         ensures subscriber { (act : Act) → act_of request.now ≡ Some act
             → IsTrue (is_only_subscribed act (connection_of self.old conn)) → IsOk result }
         ensures err { OnErr result (self.new ≡ self.old) }
     {
-        self.act(moment, caller, conn, act_of(request))
+        let act = act_of(request);
+        if self.is_only_subscribed(conn, &act) {
+            return Ok(Answered::without_post(self.alloc, Answer::OnlySubscribed));
+        }
+        if self.is_full() {
+            return Err(StepFault::HistoryFull);
+        }
+        if self.is_stopped(conn, &act) {
+            return Err(StepFault::Dropped);
+        }
+        match self.perform(reading, caller, conn, act) {
+            Ok(answered) => Ok(answered),
+            Err(_) => Err(StepFault::NoMemory),
+        }
     }
 
-    /// Takes the first items of the outbox of an open connection, at most so many, for a caller. A drain that takes
-    /// nothing makes no entry, and takes no memory.
+    /// Takes the first items of the outbox of an open connection, at most so many, for a caller.
+    /// A drain that takes nothing makes no entry, and takes no memory.
     ///
-    /// `HistoryFull` comes exactly where it would take something and the history takes only closes; else `Dropped`
-    /// exactly where the connection was dropped. An error changes nothing.
+    /// `HistoryFull` comes exactly where it would take something and the history takes only
+    /// closes; else `Dropped` exactly where the connection was dropped. An error changes nothing.
     pub fn drain(
         &mut self,
-        moment: u64,
+        reading: u64,
         caller: u64,
         conn: u32,
         most: u32,
     ) -> Result<Pushes, StepFault>
         requires { IsTrue (is_open (connection_of self.old conn)) }
-        ensures items { IfOk result (λ items. items ≡ take most (connection_of self.old conn).outbox) }
-        ensures entry { OnOk result (self.new ≡ drained_at self.old moment caller conn most) }
+        ensures items { IfOk result (λ items. IsHandedOut items
+            (result_made self.old (drain_made self.old reading caller conn most))) }
+        ensures entry { OnOk result (self.new
+            ≡ with_made self.old (drain_made self.old reading caller conn most)) }
         ensures full { (result ≡ Err StepFault.HistoryFull)
             ↔ (drain_fault self.old conn most ≡ Some StepFault.HistoryFull) }
-        ensures dropped { (result ≡ Err StepFault.Dropped) ↔ (drain_fault self.old conn most ≡ Some StepFault.Dropped) }
+        ensures dropped { (result ≡ Err StepFault.Dropped)
+            ↔ (drain_fault self.old conn most ≡ Some StepFault.Dropped) }
         ensures not_too_many { result ≢ Err StepFault.TooManyConnections }
         ensures idle { (connection_of self.old conn).dropped ≡ false
             → takes_some most (connection_of self.old conn) ≡ false → IsOk result }
@@ -171,30 +191,23 @@ impl ServerState {
         if !self.takes_some(conn, most) {
             return Ok(Pushes::new(self.alloc));
         }
-        match self.take(moment, caller, conn, most) {
+        match self.take(reading, caller, conn, most) {
             Ok(pushes) => Ok(pushes),
             Err(_) => Err(StepFault::NoMemory),
         }
     }
 
     /// Closes an open connection for a caller. It takes no memory and is never refused.
-    pub fn close(&mut self, moment: u64, caller: u64, conn: u32)
+    pub fn close(&mut self, reading: u64, caller: u64, conn: u32)
         requires { IsTrue (is_open (connection_of self.old conn)) }
-        ensures { self.new ≡ known_after self.old moment caller conn acts.Close }
+        ensures gives { Closes
+            ≡ result_of (state_of self.old) (entry_of self.old reading caller conn acts.Close) }
+        ensures entry { self.new
+            ≡ with_entry self.old (entry_of self.old reading caller conn acts.Close) }
     {
-        let at = self.later(moment);
+        let entry = self.entry(reading, caller, conn, Act::Close);
         self.board.close(conn);
-        let act = Act::Close;
-        append(
-            &mut self.history,
-            &mut self.moment,
-            Entry {
-                moment: at,
-                caller,
-                conn,
-                act,
-            },
-        );
+        append(&mut self.history, &mut self.moment, entry);
     }
 
     /// The moment of the last step, in milliseconds: 0 before the first.
@@ -240,12 +253,18 @@ impl ServerState {
         self.history.len() >= MOST_ENTRIES
     }
 
-    // The moment of a step at this reading of the clock.
-    fn later(&self, reading: u64) -> u64
-        ensures value { result ≡ later (state_of self.now).moment reading }
-        ensures early { result ≤ last_moment }
+    // The entry of an act at this reading of the clock.
+    fn entry(&self, reading: u64, caller: u64, conn: u32, act: Act) -> Entry
+        ensures value { result ≡ entry_of self.now reading caller conn act }
+        ensures early { moment_at self.now reading ≤ last_moment }
     {
-        self.moment.max(reading.min(LAST_MOMENT))
+        let moment = self.moment.max(reading.min(LAST_MOMENT));
+        Entry {
+            moment,
+            caller,
+            conn,
+            act,
+        }
     }
 
     // Whether a call comes from a connection that only subscribes.
@@ -286,43 +305,10 @@ impl ServerState {
         None
     }
 
-    // Does an act of an open connection: what `step` promises.
-    fn act(&mut self, moment: u64, caller: u64, conn: u32, act: Act) -> Result<Answered, StepFault>
-        requires open { IsTrue (is_open (connection_of self.old conn)) }
-        requires asked { IsTrue (is_asked act) }
-        ensures answer { IfOk result (λ a. a.answer ≡ answer_at self.old moment conn act) }
-        ensures post { IfOk result (λ a. a.post ≡ post_at self.old moment conn act) }
-        ensures reached { IfOk result (λ a. a.reached
-            ≡ reached_of (post_at self.old moment conn act) (state_of self.old).board) }
-        ensures dropping { IfOk result (λ a. a.dropped
-            ≡ dropped_of (post_at self.old moment conn act) (state_of self.old).board) }
-        ensures entry { OnOk result (self.new ≡ known_at self.old moment caller conn act) }
-        ensures full { (result ≡ Err StepFault.HistoryFull)
-            ↔ (fault_of self.old conn act ≡ Some StepFault.HistoryFull) }
-        ensures dropped { (result ≡ Err StepFault.Dropped) ↔ (fault_of self.old conn act ≡ Some StepFault.Dropped) }
-        ensures not_too_many { result ≢ Err StepFault.TooManyConnections }
-        ensures subscriber { IsTrue (is_only_subscribed act (connection_of self.old conn)) → IsOk result }
-        ensures err { OnErr result (self.new ≡ self.old) }
-    {
-        if self.is_only_subscribed(conn, &act) {
-            return Ok(Answered::of(self.alloc, Answer::OnlySubscribed));
-        }
-        if self.is_full() {
-            return Err(StepFault::HistoryFull);
-        }
-        if self.is_stopped(conn, &act) {
-            return Err(StepFault::Dropped);
-        }
-        match self.perform(moment, caller, conn, act) {
-            Ok(answered) => Ok(answered),
-            Err(_) => Err(StepFault::NoMemory),
-        }
-    }
-
     // Does an act that may be done. All memory is taken before the first change.
     fn perform(
         &mut self,
-        moment: u64,
+        reading: u64,
         caller: u64,
         conn: u32,
         act: Act,
@@ -330,61 +316,47 @@ impl ServerState {
         requires asked { IsTrue (is_asked act) }
         requires allowed { IsAllowed (state_of self.old) conn act }
         requires room { is_refused self.old.entries act ≡ false }
-        ensures answer { IfOk result (λ a. a.answer
-            ≡ answer_of (state_of self.old) (moment_at self.old moment) conn act) }
-        ensures post { IfOk result (λ a. a.post
-            ≡ post_by (state_of self.old) (moment_at self.old moment) act) }
-        ensures reached { IfOk result (λ a. a.reached
-            ≡ reached_of (post_by (state_of self.old) (moment_at self.old moment) act) (state_of self.old).board) }
-        ensures dropping { IfOk result (λ a. a.dropped
-            ≡ dropped_of (post_by (state_of self.old) (moment_at self.old moment) act) (state_of self.old).board) }
-        ensures entry { OnOk result (self.new ≡ known_after self.old moment caller conn act) }
+        ensures told { IfOk result (IsTold (state_of self.old)
+            (Some (entry_of self.old reading caller conn act))) }
+        ensures entry { OnOk result (self.new
+            ≡ with_entry self.old (entry_of self.old reading caller conn act)) }
         ensures err { OnErr result (self.new ≡ self.old) }
     {
-        let at = self.later(moment);
+        let entry = self.entry(reading, caller, conn, act);
         self.history.reserve(ROOM)?;
-        let answered = match change(self.alloc, &mut self.keys, &mut self.board, at, conn, &act) {
+        self.board.reserve()?;
+        let answered = match make(self.alloc, &mut self.keys, &mut self.board, &entry) {
             Ok(answered) => answered,
             Err(fault) => return Err(fault),
         };
-        append(
-            &mut self.history,
-            &mut self.moment,
-            Entry {
-                moment: at,
-                caller,
-                conn,
-                act,
-            },
-        );
+        append(&mut self.history, &mut self.moment, entry);
         Ok(answered)
     }
 
     // Takes something from an outbox. All memory is taken before the first change.
-    fn take(&mut self, moment: u64, caller: u64, conn: u32, most: u32) -> Result<Pushes, AllocError>
+    fn take(
+        &mut self,
+        reading: u64,
+        caller: u64,
+        conn: u32,
+        most: u32,
+    ) -> Result<Pushes, AllocError>
         requires allowed { CanDrain (connection_of self.old conn) most }
         requires room { is_refused self.old.entries (acts.Drain most) ≡ false }
-        ensures items { IfOk result (λ items. items ≡ take most (connection_of self.old conn).outbox) }
-        ensures entry { OnOk result (self.new ≡ known_after self.old moment caller conn (acts.Drain most)) }
+        ensures items { IfOk result (λ items.
+            let entry = entry_of self.old reading caller conn (acts.Drain most) in
+            HandsOut items ≡ result_of (state_of self.old) entry) }
+        ensures entry { OnOk result (self.new
+            ≡ with_entry self.old (entry_of self.old reading caller conn (acts.Drain most))) }
         ensures err { OnErr result (self.new ≡ self.old) }
     {
-        let at = self.later(moment);
+        let entry = self.entry(reading, caller, conn, Act::Drain(most));
         self.history.reserve(ROOM)?;
         let pushes = match self.board.drain(conn, most) {
             Ok(pushes) => pushes,
             Err(_) => return Err(AllocError),
         };
-        let act = Act::Drain(most);
-        append(
-            &mut self.history,
-            &mut self.moment,
-            Entry {
-                moment: at,
-                caller,
-                conn,
-                act,
-            },
-        );
+        append(&mut self.history, &mut self.moment, entry);
         Ok(pushes)
     }
 }

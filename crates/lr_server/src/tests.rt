@@ -49,7 +49,8 @@ fn subscribing(alloc: Global, channel: Channel) -> Result<Request, AllocError>
     Ok(Request::Subscribe(channels))
 }
 
-// Whether a lock is granted and freed on connection 0, and refused to the subscriber on connection 1.
+// Whether a lock is granted and freed on connection 0, and refused to the subscriber on
+// connection 1.
 fn calls_are_answered(
     server: &mut ServerState,
     name: Name,

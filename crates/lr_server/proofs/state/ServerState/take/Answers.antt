@@ -1,11 +1,14 @@
 use Rattle.std.proofs.Common.{arith, ◌≤◌}
 use Rattle.lr_limits.specs.Limits.{connection_limit}
-use Rattle.lr_server.proofs.Serves.{appended, serves_drain}
+use Rattle.lr_server.proofs.Serves.{serves_as_shown, serves_pushed, serves_drain}
 use Rattle.lr_server.proofs.state.ServerState.take.Goals as goal
 
 pub invariant_of-self-2 : goal.invariant_of-self-2
 invariant_of-self-2 c =
-    let s = c.self.inside in
-    let room : connection_limit ≤ c.append.new.history.spare = omega (arith, c.in_ok-reserve.ensures.ok, c.append.ensures.spare) in
-    serves_drain s.last s.history.entries s.moment s.keys s.board s.history.spare c.self.invariant _ c.self.view_is c.args.moment _ c.later-at.ensures.value c.later-at.ensures.early
-    c.args.caller c.args.conn _ _ c.drain.new.self _ c.append.ensures.moment c.args.most c.requires.allowed (appended _ _ _ _ c.append.ensures.entries c.reserve.ensures.entries) c.in-Ok.ensures.ok room
+    let room : connection_limit ≤ c.append.new.history.spare =
+    omega (arith, c.in_ok-reserve.ensures.ok, c.append.ensures.spare) in
+    serves_pushed c.self.view_is c.entry-entry.ensures.value c.reserve.ensures.entries
+    c.append.ensures.entries c.append.ensures.moment
+    (serves_drain (serves_as_shown c.self.view_is c.self.invariant) c.args.reading c.args.caller
+    c.args.conn c.entry-entry.ensures.early c.args.most c.drain.new.self
+    c.append.new.history.spare c.requires.allowed c.in-Ok.ensures.ok room)
