@@ -1,3 +1,4 @@
-pub mod HoldLemmas
+pub mod CountLemmas
 pub mod HoldsLaws
 pub mod PostLaws
+pub mod StepLemmas

@@ -32,5 +32,6 @@ pub record IsHold (hold : Hold) : Type 0 where
 -- The keys of a part stand for holds by name: the key of each name holds what is live of its hold.
 pub record HoldsStand (part : Part) (keys : Keys) (holds : List ℕ → Option Hold) : Type 0 where
   pub at_keys : (name : List ℕ) → IsName name
-      → entry_at keys (key_text part name) ≡ option_map hold_entry (live_hold keys.moment (holds name))
+      → entry_at keys (key_text part name)
+      ≡ option_map hold_entry (live_hold keys.moment (holds name))
   pub bounds : (name : List ℕ) (hold : Hold) → holds name ≡ Some hold → IsHold hold

@@ -26,14 +26,18 @@ pub fn hold_count(keys: &KeySpace, key: &Brief, owner: &Owner) -> u64
     }
 }
 
-/// How long what is held under the key stays so, in milliseconds: where the key has no expiry, until
-/// [`NEVER`].
+/// How long what is held under the key stays so, in milliseconds: until [`NEVER`], where the key has
+/// no expiry.
 pub fn remaining(keys: &KeySpace, key: &Brief) -> Remaining
     ensures { (hold : Hold) → IsHeld keys.now.moment (entry_at keys.now key.now) (Some hold)
         → result ≡ hold.deadline - keys.now.moment }
 {
     let left = keys.pttl(key);
     let moment = keys.moment();
-    let millis = if left > 0 { left as u64 } else { NEVER - moment };
+    let millis = if left > 0 {
+        left as u64
+    } else {
+        NEVER - moment
+    };
     Remaining::new(millis)
 }

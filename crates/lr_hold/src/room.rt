@@ -12,7 +12,8 @@ use std::alloc::{AllocError, Global};
 /// Whether the key will be there at the moment, or at that of the keys where that is later.
 pub fn is_there_at(keys: &KeySpace, key: &Brief, moment: u64) -> bool
     requires { moment ≤ last_moment }
-    ensures { result ≡ is_some (live_entry (max keys.now.moment moment) (entry_at keys.now key.now)) }
+    ensures { let m = max keys.now.moment moment in
+        result ≡ is_some (live_entry m (entry_at keys.now key.now)) }
 {
     let left = keys.pttl(key);
     let passing = moment.saturating_sub(keys.moment());
@@ -29,12 +30,13 @@ pub fn make_room(
     owner: &Owner,
 ) -> Result<(), AllocError>
     requires { moment ≤ last_moment }
-    ensures room { OnOk result (live_entry (max keys.old.moment moment) (entry_at keys.old key.now) ≡ None
+    ensures room { let m = max keys.old.moment moment in
+        OnOk result (live_entry m (entry_at keys.old key.now) ≡ None
         → IsPrepared keys.new key.now ValueKind.Hash (owner_text owner.now)) }
     ensures entries { entry_at keys.new ≡ entry_at keys.old }
     ensures moment { keys.new.moment ≡ keys.old.moment }
-    ensures there { IsTrue (is_some (live_entry (max keys.old.moment moment) (entry_at keys.old key.now)))
-        → IsOk result }
+    ensures there { let m = max keys.old.moment moment in
+        IsTrue (is_some (live_entry m (entry_at keys.old key.now))) → IsOk result }
     ensures err { OnErr result (keys.new ≡ keys.old) }
 {
     if is_there_at(keys, key, moment) {

@@ -21,8 +21,10 @@ use std::alloc::Global;
 // Adds to the owner's hold count, and lets the key last for this lease from now on.
 fn add(alloc: Global, keys: &mut KeySpace, key: &Brief, owner: &Brief, by: i64, lease: u64)
     requires lease { IsTrue (is_lease lease) }
-    ensures made { IsPrepared keys.old key.now ValueKind.Hash owner.now → entry_at keys.old key.now ≡ None
-        → entry_at keys.new key.now ≡ Some (one_field owner.now by (Some (keys.old.moment + lease))) }
+    ensures made { IsPrepared keys.old key.now ValueKind.Hash owner.now
+        → entry_at keys.old key.now ≡ None
+        → entry_at keys.new key.now
+        ≡ Some (one_field owner.now by (Some (keys.old.moment + lease))) }
     ensures added { (count : ℤ) (expiry : Option ℕ)
         → entry_at keys.old key.now ≡ Some (one_field owner.now count expiry)
         → IsTrue (is_i64 (count +ℤ by))
@@ -62,7 +64,8 @@ pub fn give_back(alloc: Global, keys: &mut KeySpace, key: &Brief, owner: &Owner,
     requires lease { IsTrue (is_lease rest) }
     ensures step { (post : Option Post) (held : Option Hold)
         → IsHeld keys.old.moment (entry_at keys.old key.now) held
-        → IsHoldStep keys.new key.now result (give_back_hold post keys.old.moment owner.now rest held) }
+        → IsHoldStep keys.new key.now result
+        (give_back_hold post keys.old.moment owner.now rest held) }
     ensures others { ChangesOnly key.now keys.old keys.new }
     ensures moment { keys.new.moment ≡ keys.old.moment }
 {

@@ -14,7 +14,10 @@ pub no_keys_stand : (keys : Keys) → entry_at keys ≡ (λ _. None) → Mutexes
 no_keys_stand keys none = no_holds_stand Lock keys none
 
 -- what is left of the keys later stands for the same locks
-pub mutexes_stand_later : (old new : Keys) (objects : Objects) → MutexesStand old objects → old.moment ≤ new.moment → new.moment ≤ last_moment
-    → ((name : List ℕ) → IsName name → entry_at new (key_text Lock name) ≡ live_entry new.moment (entry_at old (key_text Lock name)))
+pub mutexes_stand_later : (old new : Keys) (objects : Objects) → MutexesStand old objects
+    → old.moment ≤ new.moment → new.moment ≤ last_moment
+    → ((name : List ℕ) → IsName name
+    → entry_at new (key_text Lock name) ≡ live_entry new.moment (entry_at old (key_text Lock name)))
     → MutexesStand new objects
-mutexes_stand_later old new objects stand later early entries = holds_stand_later Lock old objects.mutexes stand new later early entries
+mutexes_stand_later old new objects stand later early entries =
+    holds_stand_later Lock old objects.mutexes stand new later early entries

@@ -1,19 +1,18 @@
 //! The call of a function of a lock.
-ghost use Rattle.std.specs.Prelude.{◌≡◌, ◌≤◌, None, max, false, IsOk, IfOk, OnOk, OnErr};
+ghost use Rattle.std.specs.Prelude.{◌≡◌, ◌≤◌, Option, None, Some, max, false, if◌then◌else◌, IsOk, IfOk, OnOk, OnErr};
 ghost use Rattle.lr_names.specs.Key.{key_text, keys_of};
 ghost use Rattle.lr_keys.specs.KeySpace.{OthersAreLive, entry_at, live_entry, plan_at};
 ghost use Rattle.lr_limits.specs.Limits.{last_moment};
 ghost use Rattle.lr_model.specs.Answer.{Objects, answer, reply_of, objects_after, post_of};
-ghost use Rattle.lr_names.specs.Name.{IsName};
-ghost use Rattle.lr_names.specs.Owner.{IsOwner};
+ghost use Rattle.lr_model.specs.Mutex.{lock_post};
 ghost use Rattle.lr_objects.specs.Op.{IsCall, kind_of, name_of};
+ghost use Rattle.lr_hold.specs.Step.{is_freed};
 ghost use Rattle.lr_mutex.specs.Run.{IsRun, makes_key};
 ghost use Rattle.lr_mutex.specs.Stands.{MutexesStand};
 
 use crate::functions::{lock_force, lock_renew, lock_try, lock_unlock};
-use crate::posts::post_after;
 use lr_keys::KeySpace;
-use lr_names::{Kind, Name, Owner, Part, Post};
+use lr_names::{Channel, Kind, Name, Part, Post};
 use lr_objects::{Op, Reply};
 use std::alloc::{AllocError, Global};
 
@@ -24,8 +23,8 @@ fn answer(alloc: Global, keys: &mut KeySpace, moment: u64, op: &Op) -> Result<Re
     ensures run { let m = max keys.old.moment moment in IfOk result (λ reply.
         IsRun keys.old keys.new m (name_of op.now) reply (λ objects. answer objects m op.now)) }
     ensures succeeds { let m = max keys.old.moment moment in
-        makes_key op.now (live_entry m (entry_at keys.old (key_text Part.Lock (name_of op.now)))) ≡ false
-        → IsOk result }
+        let key = key_text Part.Lock (name_of op.now) in
+        makes_key op.now (live_entry m (entry_at keys.old key)) ≡ false → IsOk result }
     ensures err { OnErr result (keys.new ≡ keys.old) }
 {
     match op {
@@ -38,41 +37,23 @@ fn answer(alloc: Global, keys: &mut KeySpace, moment: u64, op: &Op) -> Result<Re
     }
 }
 
-// What the type of a name says of it.
-fn named(name: &Name)
-    ensures { IsName name.now }
+// The message of a call on the lock of this name that was answered so: those who wait are told that
+// the lock has come free.
+fn post_after(name: &Name, reply: &Reply) -> Option<Post>
+    ensures { result ≡ (if is_freed reply.now then Some (lock_post name.now) else None) }
 {
-    let _text = name.as_slice();
-}
-
-// What the types of a name and an owner say of them.
-fn owned(name: &Name, owner: &Owner)
-    ensures name { IsName name.now }
-    ensures owner { IsOwner owner.now }
-{
-    named(name);
-    let _client = owner.client();
-    let _thread = owner.thread();
-}
-
-// What the types of a call's parts say of them.
-fn known(op: &Op)
-    ensures { IsCall op.now }
-{
-    match op {
-        Op::LockTry { name, owner, .. }
-        | Op::LockUnlock { name, owner, .. }
-        | Op::LockRenew { name, owner, .. } => owned(name, owner),
-        Op::LockForce { name } => named(name),
+    match reply {
+        Reply::Freed => Some(Post::to(Channel::of(Kind::Mutex, name))),
+        _ => None,
     }
 }
 
 /// Runs a function of a reentrant lock, as one step at a moment in milliseconds, or at that of the
 /// keys where that is later.
 ///
-/// Where the keys stand for the locks of some objects, the reply and the message are what the function
-/// gives for these, and afterwards the keys stand for what it makes of them. All keys of other objects
-/// hold what is live of them. Memory that was prepared is given up.
+/// Where the keys stand for the locks of some objects, the reply and the message are what the
+/// function gives for these, and afterwards the keys stand for what it makes of them. All keys of
+/// other objects hold what is live of them. Memory that was prepared is given up.
 ///
 /// Only a try that makes the lock's key takes memory. After an error nothing has changed: the moment
 /// and the keys are as before.
@@ -96,13 +77,13 @@ pub fn run(
     ensures moment { OnOk result (keys.new.moment ≡ max keys.old.moment moment) }
     ensures settled { OnOk result (plan_at keys.new ≡ (λ _. None)) }
     ensures succeeds { let m = max keys.old.moment moment in
-        makes_key op.now (live_entry m (entry_at keys.old (key_text Part.Lock (name_of op.now)))) ≡ false
-        → IsOk result }
+        let key = key_text Part.Lock (name_of op.now) in
+        makes_key op.now (live_entry m (entry_at keys.old key)) ≡ false → IsOk result }
     ensures err { OnErr result (keys.new ≡ keys.old) }
 {
-    known(op);
+    let name = op.name();
     let reply = answer(alloc, keys, moment, op)?;
     keys.settle();
-    let post = post_after(op, &reply);
+    let post = post_after(name, &reply);
     Ok((reply, post))
 }

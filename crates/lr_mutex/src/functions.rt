@@ -30,8 +30,8 @@ pub(crate) fn lock_try(
         IsRun keys.old keys.new m name.now reply
         (λ objects. on_mutex objects name.now (lock_try m owner.now lease))) }
     ensures succeeds { let m = max keys.old.moment moment in
-        is_lease lease && is_none (live_entry m (entry_at keys.old (key_text Part.Lock name.now))) ≡ false
-        → IsOk result }
+        let key = key_text Part.Lock name.now in
+        is_lease lease && is_none (live_entry m (entry_at keys.old key)) ≡ false → IsOk result }
     ensures err { OnErr result (keys.new ≡ keys.old) }
 {
     if !is_lease(lease) {

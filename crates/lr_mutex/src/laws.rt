@@ -8,18 +8,17 @@ ghost use Rattle.lr_mutex.specs.Stands.{MutexesStand};
 ghost use Rattle.lr_names.specs.declared.part.Part.TheVariants.{Lock};
 
 /// A key space without keys, as a new one, stands for no locks.
-
 pub fn no_keys_stand_for_no_mutexes()
     ensures { (keys : Keys) → entry_at keys ≡ (λ _. None) → MutexesStand keys no_objects }
 {}
 
 /// Where the key of each lock goes on to hold what is live of it, as in a call of another kind, the
 /// keys stand for the same locks.
-
 pub fn mutexes_stand_later()
     ensures { (old new : Keys) (objects : Objects) → MutexesStand old objects
         → old.moment ≤ new.moment → new.moment ≤ last_moment
         → ((name : List ℕ) → IsName name
-        → entry_at new (key_text Lock name) ≡ live_entry new.moment (entry_at old (key_text Lock name)))
+        → entry_at new (key_text Lock name)
+        ≡ live_entry new.moment (entry_at old (key_text Lock name)))
         → MutexesStand new objects }
 {}

@@ -6,7 +6,6 @@
 mod call;
 mod functions;
 mod laws;
-mod posts;
 #[cfg(test)]
 mod tests;
 
