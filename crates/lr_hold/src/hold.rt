@@ -33,11 +33,8 @@ pub fn remaining(keys: &KeySpace, key: &Brief) -> Remaining
         → result ≡ hold.deadline - keys.now.moment }
 {
     let left = keys.pttl(key);
-    let moment = keys.moment();
-    let millis = if left > 0 {
-        left as u64
-    } else {
-        NEVER - moment
-    };
-    Remaining::new(millis)
+    if left > 0 {
+        return Remaining::new(left as u64);
+    }
+    Remaining::new(NEVER - keys.moment())
 }
