@@ -17,7 +17,7 @@ use Rattle.lr_model.specs.Answer.{Answered, Objects, on_mutex, reply_of, post_of
 use Rattle.lr_model.specs.Hold.{live_hold, take_hold, give_back_hold, renew_hold}
 use Rattle.lr_model.specs.Moment.{is_lease}
 use Rattle.lr_model.specs.Mutex.{lock_post}
-use Rattle.lr_model.specs.Outcome.{Outcome, silent_outcome, with_lease}
+use Rattle.lr_model.specs.Outcome.{Outcome, silent_outcome}
 use Rattle.lr_hold.specs.Step.{ChangesOnly, IsHeld, IsHoldStep, is_freed}
 use Rattle.lr_hold.proofs.HoldsLaws.{held_at, holds_stand_after, holds_stand_still, others_are_live}
 use Rattle.lr_hold.proofs.PostLaws.{sends-take_hold, sends-give_back_hold, sends-renew_hold, sends-end_hold, sends-with_lease}
