@@ -2,7 +2,7 @@
 use Rattle.std.specs.Prelude.{ℕ, ◌+◌, ◌/◌, ◌%◌, nat_lt, nat_le, ◌&&◌, if◌then◌else◌, List, [], ◌∷◌, ◌++◌, length, take, codes, decimal}
 use Rattle.std.specs.List.{flat_map}
 
--- how many bytes of a line, or of a word of it, are shown at most
+-- how many bytes of a line, or of a word of it, are shown at most: no limit of input
 abbrev pub shown_limit : ℕ
 shown_limit = 80
 
@@ -16,7 +16,7 @@ byte_text b =
     if nat_le 32 b && nat_le b 126 then b ∷ []
     else codes "\\x" ++ digit_of_sixteen (b / 16) ∷ digit_of_sixteen (b % 16) ∷ []
 
--- what stands behind the bytes that are shown, where the text has so many
+-- the end of a quotation, by how many bytes the text has
 abbrev pub quotation_end : ℕ → List ℕ
 quotation_end count = if nat_le count shown_limit then codes "\"" else codes "\"..."
 

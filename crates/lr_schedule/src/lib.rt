@@ -1,4 +1,5 @@
-//! The spelling of a schedule: which event a line is, and what is written of it.
+//! The spelling of a schedule: which event a line is, why a line is none, and what is written of an
+//! event.
 #![tactic(auto)]
 
 mod arguments;

@@ -5,7 +5,7 @@ ghost use Rattle.lr_schedule.specs.Explanation.{shown_limit, digit_of_sixteen, b
 use lr_text::Text;
 use std::alloc::AllocError;
 
-/// How many bytes of a text are shown at most.
+/// How many bytes of a text are shown at most: no limit of input.
 const SHOWN_BYTES: usize = 80;
 
 /// Appends a text in quotes: of its first 80 bytes those that are printable ASCII as they are, the
