@@ -1,5 +1,5 @@
 -- A call of a world on a connection that may call: what the server answers, and its history afterwards.
-use Rattle.std.proofs.Common.{◌≡◌, ℕ, ◌≤◌, ◌<◌, [], ◌∷◌, ◌++◌, length, false, if◌then◌else◌, nat_le, Option, Some, None, refl, sym, ap, ◌∙◌, subst, arith}
+use Rattle.std.proofs.Common.{◌≡◌, ℕ, ◌≤◌, ◌<◌, length, false, if◌then◌else◌, nat_le, Option, Some, None, refl, sym, ap, ◌∙◌, arith}
 use Rattle.std.proofs.lemmas.Bool.{lt-leb}
 use Rattle.lr_limits.specs.Limits.{entry_limit, last_moment}
 use Rattle.lr_names.specs.declared.post.Post.{Post}
@@ -9,7 +9,7 @@ use Rattle.lr_model.specs.declared.entry.Act.TheVariants.{Call}
 use Rattle.lr_model.specs.declared.entry.Entry.{Entry}
 use Rattle.lr_model.specs.Answer.{reply_of, post_of}
 use Rattle.lr_model.specs.Board.{Board}
-use Rattle.lr_model.specs.History.{State, state_at_start, after, MayFollow, EntryResult, Replies}
+use Rattle.lr_model.specs.History.{State, state_at_start, after, MayFollow, Replies}
 use Rattle.lr_model.specs.Moment.{later}
 use Rattle.lr_model.specs.World.{first_state, call_entry, replied_at, reached_post}
 use Rattle.lr_server.specs.declared.fault.StepFault.{StepFault}

@@ -1,5 +1,5 @@
 -- What contracts see of a world, and the world of the definitions that it is.
-use Rattle.std.specs.Prelude.{◌≡◌, ℕ, ◌+◌, ◌≤◌, List, [], length}
+use Rattle.std.specs.Prelude.{◌≡◌, ℕ, ◌≤◌, List, length}
 use Rattle.lr_limits.specs.Limits.{event_limit, last_moment}
 use Rattle.lr_model.specs.declared.entry.Entry.{Entry}
 use Rattle.lr_model.specs.declared.waiter.ThreadId.{ThreadId}

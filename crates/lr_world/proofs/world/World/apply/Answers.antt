@@ -1,4 +1,4 @@
-use Rattle.std.proofs.Common.{◌≡◌, ◌≤◌, ◌+◌, ◌++◌, length, ℕ, sym, ap, subst, ◌∙◌, arith}
+use Rattle.std.proofs.Common.{◌≤◌, ◌+◌, ◌++◌, length, sym, ap, subst, ◌∙◌, arith}
 use Rattle.lr_model.specs.Sound.{IsInOrder}
 use Rattle.lr_model.specs.World.{World, deeds_of, deeds_of_event}
 use Rattle.lr_laws.proofs.Worlds.{InOrder, InOrder-next, IsSound-from_order, deeds_of-next, length-next}
