@@ -2,9 +2,9 @@ ghost use Rattle.std.specs.Prelude.{◌≡◌};
 ghost use Rattle.lr_limits.specs.Limits.{line_limit, name_limit, brief_limit, thread_limit, client_limit, event_limit, last_moment, never, longest_lease, watchdog_lease, hold_limit, amount_limit, member_limit, outbox_limit, connection_limit, entry_limit};
 
 use crate::{
-    BRIEF_BYTES, LAST_MOMENT, LINE_BYTES, LONGEST_LEASE, MOST_CLIENTS, MOST_CONNECTIONS,
-    MOST_AMOUNT, MOST_ENTRIES, MOST_EVENTS, MOST_HOLDS, MOST_MEMBERS, MOST_THREADS, MOST_WAITING, NAME_BYTES,
-    NEVER, WATCHDOG_LEASE,
+    BRIEF_BYTES, LAST_MOMENT, LINE_BYTES, LONGEST_LEASE, MOST_AMOUNT, MOST_CLIENTS,
+    MOST_CONNECTIONS, MOST_ENTRIES, MOST_EVENTS, MOST_HOLDS, MOST_MEMBERS, MOST_THREADS,
+    MOST_WAITING, NAME_BYTES, NEVER, WATCHDOG_LEASE,
 };
 
 /// Each limit of the code is the number that the definitions name.
