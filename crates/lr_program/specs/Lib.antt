@@ -1,0 +1,4 @@
+pub mod Recent
+pub mod Remembering
+pub mod Words
+pub mod Commands
