@@ -1,3 +1,3 @@
-pub mod Stored
+pub mod HistoryValue
+pub mod Segments
 pub mod Limit
-pub mod Fault

@@ -1,5 +1,5 @@
 -- When a history takes no more: a limit of this project's own.
-use Rattle.std.specs.Prelude.{ℕ, Bool, true, false, ◌&&◌, nat_le, List, length}
+use Rattle.std.specs.Prelude.{Bool, true, false, ◌&&◌, nat_le, List, length}
 use Rattle.lr_limits.specs.Limits.{entry_limit}
 use Rattle.lr_model.specs.declared.entry.Act.{Act}
 use Rattle.lr_model.specs.declared.entry.Act.TheVariants.{Call, Subscribe, Unsubscribe, Open, Close, Drain}

@@ -4,7 +4,8 @@ ghost use Rattle.lr_history.specs.Limit.{is_limited, is_refused};
 use crate::entries::Entries;
 use crate::fault::HistoryFault;
 use crate::segment::Segment;
-use crate::{MOST_ENTRIES, MOST_SEGMENTS, SEGMENT_ENTRIES, TABLE_SEGMENTS};
+use crate::{MOST_SEGMENTS, SEGMENT_ENTRIES, TABLE_SEGMENTS};
+use lr_limits::MOST_ENTRIES;
 use lr_model::{Act, Entry};
 use std::alloc::{AllocError, Global};
 use std::marker::Model;
@@ -21,9 +22,10 @@ pub struct History {
 
 impl Model for History {
     ghost use Rattle.std.specs.Prelude.{vec_len, vec_capacity};
-    ghost use Rattle.lr_history.specs.Stored.{Stored, entries_of, spare_of, IsInOrder};
+    ghost use Rattle.lr_history.specs.HistoryValue.{HistoryValue};
+    ghost use Rattle.lr_history.specs.Segments.{entries_of, spare_of, IsInOrder};
 
-    ghost Value = { Stored };
+    ghost Value = { HistoryValue };
 
     ghost view = { λ h. record {
       entries = entries_of h.full.items h.last;
@@ -100,7 +102,8 @@ impl History {
 
     /// The entries of one caller, in order.
     pub fn filter_caller(&self, caller: u64) -> Result<Entries, AllocError>
-        ensures { IfOk result (λ found. found ≡ filter (λ e. e.caller == caller) self.now.entries) }
+        ensures { IfOk result (λ found. found
+            ≡ filter (λ e. e.caller == caller) self.now.entries) }
     {
         let mut found = Entries::new(self.alloc);
         for segment in &self.full {
@@ -178,7 +181,8 @@ fn is_limited(act: &Act) -> bool
 
 // Appends those of the entries that are the caller's.
 fn push_of_caller(found: &mut Entries, entries: &[Entry], caller: u64) -> Result<(), AllocError>
-    ensures { OnOk result (found.new ≡ found.old ++ filter (λ e. e.caller == caller) entries.now) }
+    ensures { OnOk result (found.new
+        ≡ found.old ++ filter (λ e. e.caller == caller) entries.now) }
 {
     for entry in entries {
         if entry.caller == caller {

@@ -16,7 +16,8 @@ pub has_number-written : (words : List ℕ) (conn word : ℕ) (now : Bool) → c
     → has_number (record { words = set words (conn / 64) word })
     ≡ put ◌==◌ (has_number (record { words = words })) conn now
 unfolding has_number
-has_number-written words conn word now within here others = one_table _ _ (λ k. by k (cases_eq conn k))
+has_number-written words conn word now within here others =
+    one_table _ _ (λ k. by k (cases_eq conn k))
   where
     was : ℕ → Bool
     was k = bit_at (get_or words (k / 64) 0) (k % 64) == 1
@@ -31,10 +32,12 @@ has_number-written words conn word now within here others = one_table _ _ (λ k.
         ap (λ n. bit_at (get_or (set words (conn / 64) word) (n / 64) 0) (n % 64) == 1) (sym same)
         ∙ ap (λ w. bit_at w (conn % 64) == 1) written
         ∙ here
-        ∙ ap (λ t. cond t now (bit_at (get_or words (k / 64) 0) (k % 64) == 1)) (sym (eq-eqb conn k same))
+        ∙ ap (λ t. cond t now (bit_at (get_or words (k / 64) 0) (k % 64) == 1))
+        (sym (eq-eqb conn k same))
     by k (inr apart) =
         by_word (cases_eq (k / 64) (conn / 64))
-        ∙ ap (λ t. cond t now (bit_at (get_or words (k / 64) 0) (k % 64) == 1)) (sym (ne_eqb conn k apart))
+        ∙ ap (λ t. cond t now (bit_at (get_or words (k / 64) 0) (k % 64) == 1))
+        (sym (ne_eqb conn k apart))
       where
         by_word : (k / 64 ≡ conn / 64) ⊎ (k / 64 ≢ conn / 64)
             → (bit_at (get_or (set words (conn / 64) word) (k / 64) 0) (k % 64) == 1)
@@ -45,15 +48,19 @@ has_number-written words conn word now within here others = one_table _ _ (λ k.
             ∙ ap (λ x. x == 1) (others (k % 64) (omega arith) (λ e. apart (omega arith)))
             ∙ ap (λ r. bit_at (get_or words r 0) (k % 64) == 1) (sym one)
         by_word (inr two) =
-            ap (λ w. bit_at w (k % 64) == 1) (get_or-set_other words (conn / 64) (k / 64) word 0 two)
+            ap (λ w. bit_at w (k % 64) == 1)
+            (get_or-set_other words (conn / 64) (k / 64) word 0 two)
 
 -- a word of 0 has no numbers
-pub has_number-zero : (set : ConnectionSet) (k : ℕ) → get_or set.words (k / 64) 0 ≡ 0 → has_number set k ≡ false
+pub has_number-zero : (set : ConnectionSet) (k : ℕ) → get_or set.words (k / 64) 0 ≡ 0
+    → has_number set k ≡ false
 unfolding has_number
-has_number-zero set k none = ap (λ w. bit_at w (k % 64) == 1) none ∙ ap (λ x. x == 1) (bit_at-zero (k % 64))
+has_number-zero set k none = ap (λ w. bit_at w (k % 64) == 1) none
+    ∙ ap (λ x. x == 1) (bit_at-zero (k % 64))
 
 -- nor are there any past the last word
-pub has_number-past : (set : ConnectionSet) (k : ℕ) → 64 * length set.words ≤ k → has_number set k ≡ false
+pub has_number-past : (set : ConnectionSet) (k : ℕ) → 64 * length set.words ≤ k → has_number set k
+    ≡ false
 has_number-past set k past = has_number-zero set k (get_or_past set.words (k / 64) 0 (omega arith))
 
 abbrev pub zeros : List ℕ
@@ -67,7 +74,8 @@ get_or-zeros (suc (suc (suc zero))) = refl
 get_or-zeros (suc (suc (suc (suc k)))) = refl
 
 -- the lowest bit of a word that isn't 0 is its first number
-module _ (set : ConnectionSet) (place word : ℕ) (read : get_or set.words place 0 ≡ word) (some : 0 < word)
+module _ (set : ConnectionSet) (place word : ℕ) (read : get_or set.words place 0 ≡ word)
+    (some : 0 < word)
     (fits : word < 2 ^ 64) where
   abbrev lowest : ℕ
   lowest = place * 64 + trailing_zeros w64 word
@@ -78,14 +86,16 @@ module _ (set : ConnectionSet) (place word : ℕ) (read : get_or set.words place
   at_place : (k i : ℕ) → k / 64 ≡ place → k % 64 ≡ i → has_number set k ≡ (bit_at word i == 1)
   unfolding has_number
   at_place k i here bit =
-      ap (λ r. bit_at (get_or set.words r 0) (k % 64) == 1) here ∙ ap (λ w. bit_at w (k % 64) == 1) read
+      ap (λ r. bit_at (get_or set.words r 0) (k % 64) == 1) here
+      ∙ ap (λ w. bit_at w (k % 64) == 1) read
       ∙ ap (λ b. bit_at word b == 1) bit
 
   pub lowest-has : has_number set lowest ≡ true
   lowest-has =
       let inside = lowest-inside in
       at_place lowest (trailing_zeros w64 word) (omega arith) (omega arith)
-      ∙ eq-eqb (bit_at word (trailing_zeros w64 word)) 1 (bit_at-trailing_zeros w64 word some fits).1
+      ∙ eq-eqb (bit_at word (trailing_zeros w64 word)) 1
+      (bit_at-trailing_zeros w64 word some fits).1
 
   pub lowest-first : ((k : ℕ) → k < 64 * place → has_number set k ≡ false)
       → (k : ℕ) → k < lowest → has_number set k ≡ false

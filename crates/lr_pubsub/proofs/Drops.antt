@@ -8,17 +8,23 @@ use Rattle.lr_pubsub.proofs.Slots.{either_number}
 
 -- one connection more was dropped
 pub drops-more : (seen : List ℕ) (x : ℕ) (board : Board)
-    → with_connection (board_after_drops seen board) x (dropped_connection (board_after_drops seen board x))
+    → with_connection (board_after_drops seen board) x
+    (dropped_connection (board_after_drops seen board x))
     ≡ board_after_drops (seen ++ x ∷ []) board
 drops-more seen x board = one_table _ _ (λ q.
     either_number x q
-    (λ t. cond t (dropped_connection (board_after_drops seen board x)) (board_after_drops seen board q)
+    (λ t. cond t (dropped_connection (board_after_drops seen board x))
+    (board_after_drops seen board q)
     ≡ cond (is_listed seen q || (t || false)) (dropped_connection (board q)) (board q))
-    (λ e. twice (is_listed seen x) (board x) ∙ ap (λ n. dropped_connection (board n)) e ∙ or_true (is_listed seen q) (dropped_connection (board q)) (board q))
-    (λ e. ap (λ b. cond b (dropped_connection (board q)) (board q)) (sym (or_false (is_listed seen q))))
-    ∙ ap (λ b. cond b (dropped_connection (board q)) (board q)) (sym (list_any-append (λ other. other == q) seen (x ∷ []))))
+    (λ e. twice (is_listed seen x) (board x) ∙ ap (λ n. dropped_connection (board n)) e
+    ∙ or_true (is_listed seen q) (dropped_connection (board q)) (board q))
+    (λ e. ap (λ b. cond b (dropped_connection (board q)) (board q))
+    (sym (or_false (is_listed seen q))))
+    ∙ ap (λ b. cond b (dropped_connection (board q)) (board q))
+    (sym (list_any-append (λ other. other == q) seen (x ∷ []))))
   where
-    twice : (s : Bool) (c : Connection) → dropped_connection (cond s (dropped_connection c) c) ≡ dropped_connection c
+    twice : (s : Bool) (c : Connection) → dropped_connection (cond s (dropped_connection c) c)
+        ≡ dropped_connection c
     twice true c = refl
     twice false c = refl
 

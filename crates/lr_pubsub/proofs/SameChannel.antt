@@ -22,7 +22,11 @@ both false b e = absurd (cc e)
 
 -- the kind of a number
 kind_at : ℕ → Kind
-kind_at n = if n == 0 then Mutex else (if n == 1 then Fair else (if n == 2 then Rw else (if n == 3 then Fenced else (if n == 4 then Semaphore else (if n == 5 then Permits else Countdown)))))
+kind_at n = if n == 0 then Mutex else
+    (if n == 1 then Fair else
+    (if n == 2 then Rw else
+    (if n == 3 then Fenced else
+    (if n == 4 then Semaphore else (if n == 5 then Permits else Countdown)))))
 
 kind_back : (kind : Kind) → kind_at (kind_number kind) ≡ kind
 unfolding kind_at
@@ -35,7 +39,8 @@ kind_back Permits = refl
 kind_back Countdown = refl
 
 kind_is : (a b : Kind) → (kind_number a == kind_number b) ≡ true → a ≡ b
-kind_is a b e = sym (kind_back a) ∙ ap kind_at ((Decides-eqb (kind_number a) (kind_number b)).0 e) ∙ kind_back b
+kind_is a b e = sym (kind_back a) ∙ ap kind_at ((Decides-eqb (kind_number a) (kind_number b)).0 e)
+    ∙ kind_back b
 
 owner_is : (a b : ThreadOfClient) → same_owner a b ≡ true → a ≡ b
 owner_is a b e =
@@ -45,7 +50,8 @@ owner_is a b e =
     λ i. record { client = client i; thread = thread i }
 
 owner_self : (a : ThreadOfClient) → same_owner a a ≡ true
-owner_self a = ap (λ b. b && (a.thread == a.thread)) ((bytes_eq-Decides a.client a.client).1 refl) ∙ (Decides-eqb a.thread a.thread).1 refl
+owner_self a = ap (λ b. b && (a.thread == a.thread)) ((bytes_eq-Decides a.client a.client).1 refl)
+    ∙ (Decides-eqb a.thread a.thread).1 refl
 
 queue_owner_is : (a b : Option ThreadOfClient) → same_queue_owner a b ≡ true → a ≡ b
 queue_owner_is None None e = refl
@@ -60,7 +66,8 @@ queue_owner_self (Some a) = owner_self a
 pub same_is : (a b : ChannelOf) → same_channel a b ≡ true → a ≡ b
 unfolding same_channel
 same_is a b e =
-    let parts = both (kind_number a.kind == kind_number b.kind && bytes_eq a.name b.name) (same_queue_owner a.owner b.owner) e in
+    let parts = both (kind_number a.kind == kind_number b.kind && bytes_eq a.name b.name)
+    (same_queue_owner a.owner b.owner) e in
     let more = both (kind_number a.kind == kind_number b.kind) (bytes_eq a.name b.name) parts.0 in
     let kind = kind_is a.kind b.kind more.0 in
     let name = (bytes_eq-Decides a.name b.name).0 more.1 in
@@ -70,8 +77,11 @@ same_is a b e =
 pub same_self : (a : ChannelOf) → same_channel a a ≡ true
 unfolding same_channel
 same_self a =
-    and_from (kind_number a.kind == kind_number a.kind && bytes_eq a.name a.name) (same_queue_owner a.owner a.owner)
-    (and_from (kind_number a.kind == kind_number a.kind) (bytes_eq a.name a.name) ((Decides-eqb (kind_number a.kind) (kind_number a.kind)).1 refl) ((bytes_eq-Decides a.name a.name).1 refl))
+    and_from (kind_number a.kind == kind_number a.kind && bytes_eq a.name a.name)
+    (same_queue_owner a.owner a.owner)
+    (and_from (kind_number a.kind == kind_number a.kind) (bytes_eq a.name a.name)
+    ((Decides-eqb (kind_number a.kind) (kind_number a.kind)).1 refl)
+    ((bytes_eq-Decides a.name a.name).1 refl))
     (queue_owner_self a.owner)
 
 -- whichever comes first
@@ -105,11 +115,16 @@ pub derived_same : (a b : ChannelOf) → ghosts.eq a b ≡ same_channel a b
 unfolding same_channel
 derived_same a b = by_owner a.owner b.owner
   where
-    by_kind : (z : Bool) → (sameb the_type a.kind b.kind && (bytes_eq a.name b.name && z)) ≡ ((kind_number a.kind == kind_number b.kind && bytes_eq a.name b.name) && z)
-    by_kind z = (λ i. (kind_tag a.kind i == kind_tag b.kind i) && (bytes_eq a.name b.name && z)) ∙ and_assoc (kind_number a.kind == kind_number b.kind) (bytes_eq a.name b.name) z
+    by_kind : (z : Bool) → (sameb the_type a.kind b.kind && (bytes_eq a.name b.name && z))
+        ≡ ((kind_number a.kind == kind_number b.kind && bytes_eq a.name b.name) && z)
+    by_kind z = (λ i. (kind_tag a.kind i == kind_tag b.kind i) && (bytes_eq a.name b.name && z))
+        ∙ and_assoc (kind_number a.kind == kind_number b.kind) (bytes_eq a.name b.name) z
 
-    by_owner : (o p : Option ThreadOfClient) → ghosts.eq (record { kind = a.kind; name = a.name; owner = o }) (record { kind = b.kind; name = b.name; owner = p })
-        ≡ ((kind_number a.kind == kind_number b.kind && bytes_eq a.name b.name) && same_queue_owner o p)
+    by_owner : (o p : Option ThreadOfClient)
+        → ghosts.eq (record { kind = a.kind; name = a.name; owner = o })
+        (record { kind = b.kind; name = b.name; owner = p })
+        ≡ ((kind_number a.kind == kind_number b.kind && bytes_eq a.name b.name) && same_queue_owner
+        o p)
     by_owner None None = by_kind true
     by_owner None (Some p) = by_kind false
     by_owner (Some o) None = by_kind false

@@ -1,8 +1,9 @@
--- What a board shows.
+-- What a board shows: this project's own.
 use Rattle.std.specs.Prelude.{List, Bool, unwrap_or, slice_get}
 use Rattle.lr_model.specs.Board.{Board, Connection, closed_connection}
 
--- the connections in order of their numbers, and whether the next subscription, leave or message needs no memory
+-- the connections in order of their numbers, and whether the next message, subscription or leave
+-- needs no memory
 pub record BoardValue : Type 0 where
   pub connections : List Connection
   pub ready : Bool

@@ -1,4 +1,4 @@
--- What a board asks of a connection.
+-- What a board asks of a connection: this project's own.
 use Rattle.std.specs.Prelude.{Bool, false, ◌&&◌, ◌||◌, not}
 use Rattle.std.specs.List.{list_any}
 use Rattle.lr_names.specs.Channel.{ChannelOf}

@@ -1,4 +1,4 @@
--- The place of one connection on a board, and the list of all of them.
+-- The place of one connection on a board, and the list of all of them: this project's own.
 use Rattle.std.specs.Prelude.{◌≡◌, ℕ, ◌^◌, ◌-◌, ◌<◌, ◌≤◌, List, length, map, get_or, None, IsTrue}
 use Rattle.lr_model.specs.Board.{Connection, closed_connection, has_room}
 use Rattle.lr_pubsub.specs.Connection.{is_usable}
@@ -18,7 +18,8 @@ pub record IsConnectionSlot (connection : Connection) : Type 0 where
   pub closed : connection.opener ≡ None → connection ≡ closed_connection
   pub counted : length connection.channels ≤ most_channels
 
--- the spare places of a connection: one item more, unless its outbox is full, and one channel more take no memory
+-- the spare places of a connection that can be used: one item more, unless its outbox is full,
+-- and one channel more take no memory
 pub record HasSpare (slot : ConnectionSlotValue) : Type 0 where
   pub item : IsTrue (is_usable slot.connection) → IsTrue (has_room slot.connection) → 0 < slot.room
   pub channel : IsTrue (is_usable slot.connection) → 0 < slot.channel_room

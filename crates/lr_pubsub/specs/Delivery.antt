@@ -1,4 +1,4 @@
--- A board while a message is delivered.
+-- A board while a message is delivered: this project's own steps to `board_after_post`.
 use Rattle.std.specs.Prelude.{ℕ, List, ◌==◌, Bool, if◌then◌else◌}
 use Rattle.std.specs.List.{list_any}
 use Rattle.lr_names.specs.declared.post.Post.{Post}
@@ -8,12 +8,14 @@ use Rattle.lr_model.specs.Board.{Board, Connection, dropped_connection, has_room
 -- a connection with a message more, if its outbox takes one
 abbrev pub with_message : Post → Connection → Connection
 with_message post connection =
-    if has_room connection then with_item (Message post.channel post.wakes) connection else connection
+    if has_room connection
+    then with_item (Message post.channel post.wakes) connection
+    else connection
 
--- the board when a message was put into the outboxes of those that take part, and none was dropped yet
+-- the board when these connections were told, and none was dropped yet
 abbrev pub board_with_message : Post → (ℕ → Bool) → Board → Board
-board_with_message post takes_part board =
-    λ conn. if takes_part conn then with_message post (board conn) else board conn
+board_with_message post is_told board =
+    λ conn. if is_told conn then with_message post (board conn) else board conn
 
 -- whether a number is in a list
 abbrev pub is_listed : List ℕ → ℕ → Bool

@@ -1,4 +1,4 @@
--- Who has subscribed to which channel.
+-- Who has subscribed to which channel: this project's own.
 use Rattle.std.specs.Prelude.{ℕ, List, [], ◌∷◌, Bool, false, if◌then◌else◌}
 use Rattle.lr_names.specs.Channel.{ChannelOf}
 use Rattle.lr_model.specs.Board.{same_channel}

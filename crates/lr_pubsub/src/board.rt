@@ -99,7 +99,8 @@ impl Board {
     pub fn open(&mut self, conn: u32, caller: u64)
         requires number { conn < MOST_CONNECTIONS }
         requires free { is_open (board_of self.old conn) ≡ false }
-        ensures { board_of self.new ≡ with_connection (board_of self.old) conn (new_connection caller) }
+        ensures { board_of self.new
+            ≡ with_connection (board_of self.old) conn (new_connection caller) }
     {
         self.ready = false;
         self.free.remove(conn);
@@ -110,7 +111,8 @@ impl Board {
     /// Closes an open connection. It takes no memory.
     pub fn close(&mut self, conn: u32)
         requires { IsTrue (is_open (board_of self.old conn)) }
-        ensures { board_of self.new ≡ with_connection (board_of self.old) conn closed_connection }
+        ensures { board_of self.new
+            ≡ with_connection (board_of self.old) conn closed_connection }
     {
         self.ready = false;
         self.free.add(conn);
@@ -122,9 +124,9 @@ impl Board {
         self.slots[conn as usize] = ConnectionSlot::closed(self.alloc);
     }
 
-    /// Takes the memory that the next message, subscription or leave needs, whichever it is, unless the board
-    /// changes before it. It touches only the connections that changed since this was done last. After an
-    /// error some of the memory may be taken.
+    /// Takes the memory that the next message, subscription or leave needs, whichever it is, unless
+    /// the board changes before it. It touches only the connections that changed since this was
+    /// done last. After an error some of the memory may be taken.
     pub fn reserve(&mut self) -> Result<(), AllocError>
         ensures ready { OnOk result (IsTrue self.new.ready) }
         ensures succeeds { IsTrue self.old.ready → IsOk result }
@@ -137,13 +139,16 @@ impl Board {
     }
 
     /// Subscribes an open connection to a channel, and answers how many channels it then has. The
-    /// acknowledgement waits in its outbox; a repeat is acknowledged again. An error changes nothing.
+    /// acknowledgement waits in its outbox; a repeat is acknowledged again. An error changes
+    /// nothing.
     pub fn subscribe(&mut self, conn: u32, channel: &Channel) -> Result<u32, BoardFault>
         requires { IsTrue (is_open (board_of self.old conn)) }
         ensures ok { OnOk result (board_of self.new ≡ with_connection (board_of self.old) conn
             (connection_after_subscribe channel.now (board_of self.old conn))) }
-        ensures count { IfOk result (λ n. n ≡ length (with_channel channel.now (board_of self.old conn))) }
-        ensures dropped { (result ≡ Err BoardFault.Dropped) ↔ IsTrue (is_shut (board_of self.old conn)) }
+        ensures count { IfOk result (λ n. n
+            ≡ length (with_channel channel.now (board_of self.old conn))) }
+        ensures dropped { (result ≡ Err BoardFault.Dropped)
+            ↔ IsTrue (is_shut (board_of self.old conn)) }
         ensures succeeds { IsTrue self.old.ready → result ≢ Err BoardFault.NoMemory }
         ensures err { OnErr result (self.new.connections ≡ self.old.connections) }
     {
@@ -154,14 +159,16 @@ impl Board {
         Ok(self.join(conn, channel))
     }
 
-    /// Takes a channel from an open connection, whether it has it or not, and answers how many it then
-    /// has. The acknowledgement waits in its outbox. An error changes nothing.
+    /// Takes a channel from an open connection, whether it has it or not, and answers how many it
+    /// then has. The acknowledgement waits in its outbox. An error changes nothing.
     pub fn unsubscribe(&mut self, conn: u32, channel: &Channel) -> Result<u32, BoardFault>
         requires { IsTrue (is_open (board_of self.old conn)) }
         ensures ok { OnOk result (board_of self.new ≡ with_connection (board_of self.old) conn
             (connection_after_unsubscribe channel.now (board_of self.old conn))) }
-        ensures count { IfOk result (λ n. n ≡ length (without_channel channel.now (board_of self.old conn))) }
-        ensures dropped { (result ≡ Err BoardFault.Dropped) ↔ IsTrue (is_shut (board_of self.old conn)) }
+        ensures count { IfOk result (λ n. n
+            ≡ length (without_channel channel.now (board_of self.old conn))) }
+        ensures dropped { (result ≡ Err BoardFault.Dropped)
+            ↔ IsTrue (is_shut (board_of self.old conn)) }
         ensures succeeds { IsTrue self.old.ready → result ≢ Err BoardFault.NoMemory }
         ensures err { OnErr result (self.new.connections ≡ self.old.connections) }
     {
@@ -172,10 +179,11 @@ impl Board {
         Ok(self.leave(conn, channel))
     }
 
-    /// Sends a message to those that have its channel. One whose outbox is full is dropped: it loses its
-    /// channels and what waited for it, and can only be closed. An error changes nothing.
+    /// Sends a message to those that have its channel. One whose outbox is full is dropped: it
+    /// loses its channels and what waited for it, and can only be closed. An error changes nothing.
     pub fn post(&mut self, post: &Post) -> Result<Posted, AllocError>
-        ensures ok { OnOk result (board_of self.new ≡ board_after_post (Some post.now) (board_of self.old)) }
+        ensures ok { OnOk result (board_of self.new
+            ≡ board_after_post (Some post.now) (board_of self.old)) }
         ensures reached { IfOk result (λ p. p.reached ≡ reached_by post.now (board_of self.old)) }
         ensures dropped { IfOk result (λ p. p.dropped ≡ dropped_by post.now (board_of self.old)) }
         ensures succeeds { IsTrue self.old.ready → IsOk result }
@@ -192,7 +200,8 @@ impl Board {
         ensures ok { OnOk result (board_of self.new ≡ with_connection (board_of self.old) conn
             (connection_after_drain most (board_of self.old conn))) }
         ensures items { IfOk result (λ items. items ≡ take most (board_of self.old conn).outbox) }
-        ensures dropped { (result ≡ Err BoardFault.Dropped) ↔ IsTrue (board_of self.old conn).dropped }
+        ensures dropped { (result ≡ Err BoardFault.Dropped)
+            ↔ IsTrue (board_of self.old conn).dropped }
         ensures err { OnErr result (self.new.connections ≡ self.old.connections) }
     {
         if self.is_dropped(conn) {
@@ -260,7 +269,8 @@ impl Board {
 
     // The place of a connection, if there is one for its number.
     fn slot(&self, conn: u32) -> Option<&ConnectionSlot>
-        ensures { option_map (λ slot. slot.connection) (option_copied result) ≡ slice_get self.now.connections conn }
+        ensures { option_map (λ slot. slot.connection) (option_copied result)
+            ≡ slice_get self.now.connections conn }
     {
         self.slots.get(conn as usize)
     }
@@ -401,7 +411,8 @@ impl Board {
 
 // The place of a connection when the board is new.
 fn first_slot(alloc: Global, conn: u32, last: u32) -> ConnectionSlot
-    ensures { result.connection ≡ (if nat_le conn last then new_connection 0 else closed_connection) }
+    ensures { result.connection
+        ≡ (if nat_le conn last then new_connection 0 else closed_connection) }
 {
     let mut slot = ConnectionSlot::closed(alloc);
     if conn <= last {
@@ -423,16 +434,18 @@ fn leave_all(subscribers: &mut Subscribers, channels: &[Channel], conn: u32)
     }
 }
 
-// Takes the memory of the spare places of these connections, and takes each that has them out of the set. An
-// error leaves the others in it.
+// Takes the memory of the spare places of these connections, and takes each that has them out of
+// the set. An error leaves the others in it.
 fn reserve_touched(
     slots: &mut Vec<ConnectionSlot>,
     touched: &mut ConnectionSet,
 ) -> Result<(), AllocError>
     requires many { vec_len slots.old ≡ connection_limit }
-    requires spare { (conn : ℕ) → has_number touched.old conn ≡ false → HasSpare (slot_at slots.old.items conn) }
+    requires spare { (conn : ℕ) → has_number touched.old conn ≡ false
+        → HasSpare (slot_at slots.old.items conn) }
     ensures same { connections_of slots.new.items ≡ connections_of slots.old.items }
-    ensures spare { (conn : ℕ) → has_number touched.new conn ≡ false → HasSpare (slot_at slots.new.items conn) }
+    ensures spare { (conn : ℕ) → has_number touched.new conn ≡ false
+        → HasSpare (slot_at slots.new.items conn) }
     ensures done { OnOk result (has_number touched.new ≡ (λ _. false)) }
 {
     while let Some(conn) = touched.first() {

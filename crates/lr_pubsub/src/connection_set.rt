@@ -58,7 +58,8 @@ impl ConnectionSet {
 
     /// The least number.
     pub(crate) fn first(&self) -> Option<u32>
-        ensures least { result ≡ slice_get (numbers_below connection_limit (has_number self.now)) 0 }
+        ensures least { result
+            ≡ slice_get (numbers_below connection_limit (has_number self.now)) 0 }
         ensures none { IfNone result (has_number self.now ≡ (λ _. false)) }
     {
         for (place, word) in self.words.iter().enumerate() {
@@ -71,9 +72,11 @@ impl ConnectionSet {
 
     /// Takes the least number out.
     pub(crate) fn pop_first(&mut self) -> Option<u32>
-        ensures first { result ≡ slice_get (numbers_below connection_limit (has_number self.old)) 0 }
+        ensures first { result
+            ≡ slice_get (numbers_below connection_limit (has_number self.old)) 0 }
         ensures none { IfNone result (has_number self.old ≡ (λ _. false)) }
-        ensures rest { IfSome result (λ conn. has_number self.new ≡ put ◌==◌ (has_number self.old) conn false) }
+        ensures rest { IfSome result (λ conn. has_number self.new
+            ≡ put ◌==◌ (has_number self.old) conn false) }
     {
         let first = self.first()?;
         self.remove(first);

@@ -32,13 +32,22 @@ impl Model for ConnectionSlot {
     ghost Value = { ConnectionSlotValue };
 
     ghost view = { λ s. record {
-      connection = record { opener = s.opener; channels = s.channels.items; outbox = s.outbox.items; dropped = s.dropped };
+      connection = record {
+        opener = s.opener;
+        channels = s.channels.items;
+        outbox = s.outbox.items;
+        dropped = s.dropped;
+      };
       room = deque_capacity s.outbox - deque_len s.outbox;
       channel_room = min (vec_capacity s.channels) most_channels - vec_len s.channels;
     } };
 
-    ghost invariant = { λ s. IsConnectionSlot
-        (record { opener = s.opener; channels = s.channels.items; outbox = s.outbox.items; dropped = s.dropped }) };
+    ghost invariant = { λ s. IsConnectionSlot (record {
+      opener = s.opener;
+      channels = s.channels.items;
+      outbox = s.outbox.items;
+      dropped = s.dropped;
+    }) };
 }
 
 impl ConnectionSlot {
@@ -62,8 +71,8 @@ impl ConnectionSlot {
         self.opener = Some(caller);
     }
 
-    /// Marks the connection as dropped. Its channels and what waited for it are gone, and their memory
-    /// is given back.
+    /// Marks the connection as dropped. Its channels and what waited for it are gone, and their
+    /// memory is given back.
     pub(crate) fn drop_out(&mut self, alloc: Global)
         requires { IsTrue (is_open self.old.connection) }
         ensures { self.new.connection ≡ dropped_connection self.old.connection }
@@ -122,8 +131,8 @@ impl ConnectionSlot {
         self.outbox.iter().any(|push| is_message_of(push, channel))
     }
 
-    /// Takes the memory of the spare places, if they are needed. So many channels that one more can't be
-    /// counted find no memory.
+    /// Takes the memory of the spare places, if they are needed. So many channels that one more
+    /// can't be counted find no memory.
     pub(crate) fn reserve(&mut self) -> Result<(), AllocError>
         ensures same { self.new.connection ≡ self.old.connection }
         ensures spare { OnOk result (HasSpare self.new) }
@@ -145,19 +154,21 @@ impl ConnectionSlot {
     pub(crate) fn tell(&mut self, post: &Post)
         requires open { IsTrue (is_open self.old.connection) }
         requires room { 0 < self.old.room }
-        ensures { self.new.connection ≡ with_item (Message post.now.channel post.now.wakes) self.old.connection }
+        ensures { self.new.connection
+            ≡ with_item (Message post.now.channel post.now.wakes) self.old.connection }
     {
         self.outbox
             .push_back_reserved(Push::Message(post.channel, post.wakes));
     }
 
-    /// Acknowledges a channel that the connection has, for which there is room, and answers how many it
-    /// has.
+    /// Acknowledges a channel that the connection has, for which there is room, and answers how
+    /// many it has.
     pub(crate) fn acknowledge(&mut self, channel: &Channel) -> u32
         requires open { IsTrue (is_open self.old.connection) }
         requires room { 0 < self.old.room }
-        ensures told { let channels = self.old.connection.channels in self.new.connection
-            ≡ with_acknowledgement channels (Subscribed channel.now (length channels)) self.old.connection }
+        ensures told { let channels = self.old.connection.channels in
+            self.new.connection ≡ with_acknowledgement channels
+            (Subscribed channel.now (length channels)) self.old.connection }
         ensures count { result ≡ length self.old.connection.channels }
     {
         let count = self.channels.len() as u32;
@@ -166,15 +177,15 @@ impl ConnectionSlot {
         count
     }
 
-    /// Adds a channel that the connection doesn't have, for which there is room, and acknowledges it. It
-    /// answers how many the connection then has.
+    /// Adds a channel that the connection doesn't have, for which there is room, and acknowledges
+    /// it. It answers how many the connection then has.
     pub(crate) fn join(&mut self, channel: &Channel) -> u32
         requires open { IsTrue (is_open self.old.connection) }
         requires room { 0 < self.old.room }
         requires channel { 0 < self.old.channel_room }
         ensures joined { let channels = self.old.connection.channels ++ channel.now ∷ [] in
-            self.new.connection
-            ≡ with_acknowledgement channels (Subscribed channel.now (length channels)) self.old.connection }
+            self.new.connection ≡ with_acknowledgement channels
+            (Subscribed channel.now (length channels)) self.old.connection }
         ensures count { result ≡ length (self.old.connection.channels ++ channel.now ∷ []) }
     {
         self.channels.push_reserved(*channel);
@@ -184,13 +195,14 @@ impl ConnectionSlot {
         count
     }
 
-    /// Takes a channel away, if the connection has it, and acknowledges that, for which there is room. It
-    /// answers how many the connection then has.
+    /// Takes a channel away, if the connection has it, and acknowledges that, for which there is
+    /// room. It answers how many the connection then has.
     pub(crate) fn leave(&mut self, channel: &Channel) -> u32
         requires open { IsTrue (is_open self.old.connection) }
         requires room { 0 < self.old.room }
-        ensures left { let channels = without_channel channel.now self.old.connection in self.new.connection
-            ≡ with_acknowledgement channels (Unsubscribed (Some channel.now) (length channels)) self.old.connection }
+        ensures left { let channels = without_channel channel.now self.old.connection in
+            self.new.connection ≡ with_acknowledgement channels
+            (Unsubscribed (Some channel.now) (length channels)) self.old.connection }
         ensures count { result ≡ length (without_channel channel.now self.old.connection) }
     {
         remove_channel(&mut self.channels, channel);
@@ -203,7 +215,8 @@ impl ConnectionSlot {
     /// Takes the first items, at most so many. An error changes nothing.
     pub(crate) fn drain(&mut self, alloc: Global, most: u32) -> Result<Pushes, AllocError>
         requires { IsTrue (is_open self.old.connection) }
-        ensures ok { OnOk result (self.new.connection ≡ connection_after_drain most self.old.connection) }
+        ensures ok { OnOk result (self.new.connection
+            ≡ connection_after_drain most self.old.connection) }
         ensures items { IfOk result (λ items. items ≡ take most self.old.connection.outbox) }
         ensures err { OnErr result (self.new.connection ≡ self.old.connection) }
     {
@@ -249,7 +262,8 @@ fn is_message_of(push: &Push, channel: &Channel) -> bool
 
 // Takes a channel out of a list; the others keep their order.
 fn remove_channel(channels: &mut Vec<Channel>, channel: &Channel)
-    ensures items { channels.new.items ≡ filter (λ other. not (same_channel channel.now other)) channels.old.items }
+    ensures items { channels.new.items
+        ≡ filter (λ other. not (same_channel channel.now other)) channels.old.items }
     ensures fewer { length channels.new.items ≤ length channels.old.items }
 {
     channels.retain(|other| !is_same_channel(channel, other));

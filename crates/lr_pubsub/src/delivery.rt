@@ -13,8 +13,8 @@ use lr_names::Post;
 use std::alloc::Global;
 use std::mem;
 
-/// Puts a message last into the outboxes of these connections, and lists those whose outboxes are full. It
-/// answers how many it reached.
+/// Puts a message last into the outboxes of these connections, and lists those whose outboxes are
+/// full. It answers how many it reached.
 pub(crate) fn tell_all(
     slots: &mut Vec<ConnectionSlot>,
     mut listeners: ConnectionSet,
@@ -32,9 +32,11 @@ pub(crate) fn tell_all(
         ≡ board_with_message post.now (has_number listeners) (connection_at slots.old.items) conn }
     ensures others { (conn : ℕ) → has_number listeners conn ≡ false
         → slot_at slots.new.items conn ≡ slot_at slots.old.items conn }
-    ensures reached { result ≡ length (filter (λ conn. has_room (connection_at slots.old.items conn))
+    ensures reached { result
+        ≡ length (filter (λ conn. has_room (connection_at slots.old.items conn))
         (numbers_below connection_limit (has_number listeners))) }
-    ensures full { full.new.items ≡ filter (λ conn. not (has_room (connection_at slots.old.items conn)))
+    ensures full { full.new.items
+        ≡ filter (λ conn. not (has_room (connection_at slots.old.items conn)))
         (numbers_below connection_limit (has_number listeners)) }
 {
     let mut reached: u32 = 0;
@@ -62,8 +64,8 @@ fn tell(slot: &mut ConnectionSlot, post: &Post) -> bool
     has_room
 }
 
-/// Takes numbers out of the list in which they were collected. Where there are none the list keeps its
-/// memory.
+/// Takes numbers out of the list in which they were collected. Where there are none the list keeps
+/// its memory.
 pub(crate) fn take_numbers(alloc: Global, numbers: &mut Vec<u32>) -> Vec<u32>
     ensures taken { result.items ≡ numbers.old.items }
     ensures left { numbers.new.items ≡ [] }

@@ -1,5 +1,5 @@
-//! The board: which connections are open, what they subscribe to, and what waits to be sent to them.
-//! A message goes to exactly those that have subscribed, and touches no other connection.
+//! The board: which connections are open, what they subscribe to, and what waits to be sent to
+//! them. A message goes to exactly those that have subscribed, and touches no other connection.
 #![tactic(auto)]
 
 mod board;

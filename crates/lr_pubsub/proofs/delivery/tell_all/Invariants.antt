@@ -7,13 +7,18 @@ use Rattle.lr_pubsub.proofs.delivery.tell_all.Given as goal
 
 abbrev pub invariant-loop-conn : goal.invariant-loop-conn
 invariant-loop-conn l = record {
-  told : IsTold l.post (has_number l.initial.listeners) (has_number l.listeners) l.initial.slots.items l.slots.items;
+  told : IsTold l.post (has_number l.initial.listeners)
+      (has_number l.listeners) l.initial.slots.items l.slots.items;
   reached : l.reached
-      + length (filter (λ conn. has_room (connection_at l.initial.slots.items conn)) (numbers_below 256 (has_number l.listeners)))
-      ≡ length (filter (λ conn. has_room (connection_at l.initial.slots.items conn)) (numbers_below 256 (has_number l.initial.listeners)));
+      + length (filter (λ conn. has_room (connection_at l.initial.slots.items conn))
+      (numbers_below 256 (has_number l.listeners)))
+      ≡ length (filter (λ conn. has_room (connection_at l.initial.slots.items conn))
+      (numbers_below 256 (has_number l.initial.listeners)));
   full : l.full.items
-      ++ filter (λ conn. not (has_room (connection_at l.initial.slots.items conn))) (numbers_below 256 (has_number l.listeners))
-      ≡ filter (λ conn. not (has_room (connection_at l.initial.slots.items conn))) (numbers_below 256 (has_number l.initial.listeners));
+      ++ filter (λ conn. not (has_room (connection_at l.initial.slots.items conn)))
+      (numbers_below 256 (has_number l.listeners))
+      ≡ filter (λ conn. not (has_room (connection_at l.initial.slots.items conn)))
+      (numbers_below 256 (has_number l.initial.listeners));
   capacity : vec_capacity l.full ≡ vec_capacity l.initial.full;
 }
 

@@ -11,7 +11,8 @@ returns-then-place-before_last c =
     rw (← c.self.view_is)
     (c.get.ensures
     ∙ ap (λ segment. slice_get segment (place % 1024)) c.index.ensures
-    ∙ sym (slice_get-full full.items last place c.index.result.now c.self.invariant.filled before))
+    ∙ sym
+    (slice_get-full full.items last place c.index.result.now c.self.invariant.filled before))
 
 pub returns-else-place-before_last : goal.returns-else-place-before_last
 returns-else-place-before_last c =

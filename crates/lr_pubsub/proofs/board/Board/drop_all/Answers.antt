@@ -11,7 +11,8 @@ drop_out-requires c =
     let i = c.loop-conn.conn-index in
     let x = get_or c.args.conns.now i 0 in
     subst (λ (b : Board). IsTrue (is_open (b x))) (sym c.loop-conn.invariant)
-    (drops-open (take i c.args.conns.now) (board_of c.args.self.now) x (c.requires i 0 c.loop-conn-test.true))
+    (drops-open (take i c.args.conns.now) (board_of c.args.self.now) x
+    (c.requires i 0 c.loop-conn-test.true))
 
 pub loop-conn-preserved : goal.loop-conn-preserved
 loop-conn-preserved c =
@@ -21,4 +22,5 @@ loop-conn-preserved c =
     c.drop_out.ensures
     ∙ ap (λ (b : Board). with_connection b x (dropped_connection (b x))) c.loop-conn.invariant
     ∙ drops-more (take i conns) x (board_of c.args.self.now)
-    ∙ ap (λ seen. board_after_drops seen (board_of c.args.self.now)) (sym (take_more conns i 0 c.loop-conn-test.true))
+    ∙ ap (λ seen. board_after_drops seen (board_of c.args.self.now))
+    (sym (take_more conns i 0 c.loop-conn-test.true))

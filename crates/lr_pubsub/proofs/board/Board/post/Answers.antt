@@ -5,4 +5,6 @@ use Rattle.lr_pubsub.proofs.board.Board.post.Goals as goal
 
 pub returns-clause-ok : goal.returns-clause-ok
 returns-clause-ok c =
-    c.deliver.ensures.board ∙ ap (board_after_post (Some c.args.post.now)) (board-like c.reserve.new.self c.args.self.now c.reserve.ensures.same)
+    c.deliver.ensures.board
+    ∙ ap (board_after_post (Some c.args.post.now))
+    (board-like c.reserve.new.self c.args.self.now c.reserve.ensures.same)

@@ -6,5 +6,6 @@ use Rattle.lr_pubsub.proofs.board.Board.unsubscribe.Goals as goal
 pub returns-clause-ok : goal.returns-clause-ok
 returns-clause-ok c =
     c.leave.ensures.board
-    ∙ ap (λ (b : Board). with_connection b c.args.conn (connection_after_unsubscribe c.args.channel.now (b c.args.conn)))
+    ∙ ap (λ (b : Board). with_connection b c.args.conn
+    (connection_after_unsubscribe c.args.channel.now (b c.args.conn)))
     (board-like c.reserve.new.self c.args.self.now c.reserve.ensures.same)

@@ -1,4 +1,4 @@
-use Rattle.std.proofs.Common.{◌≡◌, ◌<◌, ◌*◌, ◌/◌, ◌%◌, length, get_or, ap, arith, w64}
+use Rattle.std.proofs.Common.{◌/◌, ◌%◌, get_or, arith, w64}
 use Rattle.std.proofs.lemmas.Bool.{eq-eqb}
 use Rattle.std.proofs.lemmas.Nat.Bits.{bit_at_set_same, bit_at_set_other}
 use Rattle.lr_pubsub.proofs.ConnectionSets.{has_number-written}

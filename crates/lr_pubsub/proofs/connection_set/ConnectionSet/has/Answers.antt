@@ -5,4 +5,5 @@ use Rattle.lr_pubsub.proofs.connection_set.ConnectionSet.has.Goals as goal
 
 pub returns : goal.returns
 unfolding has_number
-returns c = ap (λ b. b == 1) (shr_and_one (get_or c.args.self.now.words (c.args.conn / 64) 0) (c.args.conn % 64))
+returns c = ap (λ b. b == 1)
+    (shr_and_one (get_or c.args.self.now.words (c.args.conn / 64) 0) (c.args.conn % 64))

@@ -12,7 +12,10 @@ of_ok (Err y) x e there = absurd (cc e)
 pub returns : goal.returns
 returns c = λ q.
     let rows = c.args.self.now.by_channel.entries in
-    let one = c.add.ensures ∙ ap (λ (table : ℕ → Bool). put ◌==◌ table c.args.conn true) c.empty-numbers.ensures in
+    let one = c.add.ensures
+    ∙ ap (λ (table : ℕ → Bool). put ◌==◌ table c.args.conn true) c.empty-numbers.ensures in
     let updates = of_ok c.insert.result c.unwrap.result c.unwrap.ensures c.insert.ensures.updates in
-    listeners_set c.args.channel.now (Some c.add.new.self) rows c.insert.new.self.entries updates.0 q
-    ∙ ap (λ (table : ℕ → Bool). if same_channel q c.args.channel.now then table else listeners q rows) one
+    listeners_set c.args.channel.now
+    (Some c.add.new.self) rows c.insert.new.self.entries updates.0 q
+    ∙ ap (λ (table : ℕ → Bool). if same_channel q c.args.channel.now then table else listeners q
+    rows) one

@@ -1,13 +1,8 @@
--- What a history shows, and how the parts that hold its entries fit together.
+-- How the segments of a history hold its entries: this project's own.
 use Rattle.std.specs.Prelude.{◌≡◌, ℕ, ◌+◌, ◌*◌, ◌-◌, ◌≤◌, List, [], ◌++◌, length, All}
 use Rattle.std.specs.List.{flat_map}
 use Rattle.lr_model.specs.declared.entry.Entry.{Entry}
 use Rattle.lr_history.specs.declared.TheConstants.{SEGMENT_ENTRIES, MOST_SEGMENTS}
-
--- the entries in order, and how many more are sure to find room
-pub record Stored : Type 0 where
-  pub entries : List Entry
-  pub spare : ℕ
 
 -- the entries of the full segments, and behind them those of the last one
 abbrev pub entries_of : List (List Entry) → List Entry → List Entry
