@@ -1,5 +1,5 @@
-//! The limits: how long, how many and how late things may be. Some are Redisson's and Redis's, most are
-//! this project's own.
+//! The limits: how long, how many and how late things may be. Some are Redisson's and Redis's, most
+//! are this project's own.
 #![tactic(auto)]
 
 mod laws;

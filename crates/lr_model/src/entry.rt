@@ -37,7 +37,17 @@ impl Model for Entry {
 
     ghost Value = { EntryValue };
 
-    ghost view = { λ v. record { moment = v.moment; caller = v.caller; conn = v.conn; act = v.act } };
+    ghost view = { λ v. record {
+      moment = v.moment;
+      caller = v.caller;
+      conn = v.conn;
+      act = v.act;
+    } };
 
-    ghost inverse = { λ v. record { moment = v.moment; caller = v.caller; conn = v.conn; act = v.act } };
+    ghost inverse = { λ v. record {
+      moment = v.moment;
+      caller = v.caller;
+      conn = v.conn;
+      act = v.act;
+    } };
 }

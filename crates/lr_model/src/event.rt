@@ -1,7 +1,8 @@
 use lr_names::Name;
 use lr_objects::{Mode, Want};
 
-/// What happens next in a schedule. Clients are numbered from 1 to 64, and threads of a client from 1 to 256.
+/// What happens next in a schedule. Clients are numbered from 1 to 64, and threads of a client from 1
+/// to 256.
 #[derive(Clone, Copy, PartialEq, Eq)]
 pub enum Event {
     /// A thread begins a request.

@@ -52,7 +52,17 @@ impl Model for Waiter {
 
     ghost Value = { WaiterValue };
 
-    ghost view = { λ v. record { mode = v.mode; want = v.want; stage = v.stage; registered = v.registered } };
+    ghost view = { λ v. record {
+      mode = v.mode;
+      want = v.want;
+      stage = v.stage;
+      registered = v.registered;
+    } };
 
-    ghost inverse = { λ v. record { mode = v.mode; want = v.want; stage = v.stage; registered = v.registered } };
+    ghost inverse = { λ v. record {
+      mode = v.mode;
+      want = v.want;
+      stage = v.stage;
+      registered = v.registered;
+    } };
 }

@@ -28,7 +28,8 @@ fn show<K: Sink>(
     requires within { IsWithin event.now }
     requires begins { MayBegin event.now }
     requires room { world.old.applied < event_limit }
-    ensures told { Told (world_of world.old) number (kinds.Event event.now) (K.held sink.old) (K.held sink.new) result }
+    ensures told { Told (world_of world.old) number (kinds.Event event.now)
+        (K.held sink.old) (K.held sink.new) result }
     ensures next { IfNone result (world_of world.new ≡ next (world_of world.old) event.now) }
     ensures count { IfNone result (world.new.applied ≡ world.old.applied + 1) }
     ensures goes_on { IfNone result (CountsFaults (K.faults sink.old) (K.faults sink.new) false) }
@@ -101,12 +102,16 @@ fn take_line<S: Source, K: Sink>(
     requires free { reader.old.stuck ≡ false }
     requires place { number ≡ world.old.applied + 1 }
     ensures goes_on { IfNone result ((all before : List ℕ)
-        → IsAt reader.old.kept (S.left source.old) (K.held sink.old) all before number (world_of world.old)
-        → IsAt reader.new.kept (S.left source.new) (K.held sink.new) all before (number + 1) (world_of world.new)) }
+        → IsAt reader.old.kept (S.left source.old) (K.held sink.old) all before
+        number (world_of world.old)
+        → IsAt reader.new.kept (S.left source.new) (K.held sink.new) all before
+        (number + 1) (world_of world.new)) }
     ensures ends { IfSome result (λ status. (all before : List ℕ)
-        → IsAt reader.old.kept (S.left source.old) (K.held sink.old) all before number (world_of world.old)
+        → IsAt reader.old.kept (S.left source.old) (K.held sink.old) all before
+        number (world_of world.old)
         → Ends status (S.left source.new) (K.held sink.new) all before) }
-    ensures read_on { IfNone result (CountsFaults (S.faults source.old) (S.faults source.new) false) }
+    ensures read_on { IfNone result
+        (CountsFaults (S.faults source.old) (S.faults source.new) false) }
     ensures read_counts { IfSome result (λ status.
         CountsFaults (S.faults source.old) (S.faults source.new) (is_read_fault status)) }
     ensures write_on { IfNone result (CountsFaults (K.faults sink.old) (K.faults sink.new) false) }
@@ -139,9 +144,12 @@ pub(crate) fn run<S: Source, K: Sink>(
 ) -> Status
     requires first { world_of world.old ≡ first_world }
     requires unused { world.old.applied ≡ 0 }
-    ensures ends { WhereTold (S.left source.old) (S.left source.new) (K.held sink.old) (K.held sink.new) (EndsSo result) }
-    ensures read_counts { CountsFaults (S.faults source.old) (S.faults source.new) (is_read_fault result) }
-    ensures write_counts { CountsFaults (K.faults sink.old) (K.faults sink.new) (is_write_fault result) }
+    ensures ends { WhereTold (S.left source.old) (S.left source.new)
+        (K.held sink.old) (K.held sink.new) (EndsSo result) }
+    ensures read_counts { CountsFaults (S.faults source.old) (S.faults source.new)
+        (is_read_fault result) }
+    ensures write_counts { CountsFaults (K.faults sink.old) (K.faults sink.new)
+        (is_write_fault result) }
     ensures no_other { IsEndOfRun result }
 {
     let Ok(mut reader) = LineReader::new(alloc) else {

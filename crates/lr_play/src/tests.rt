@@ -73,8 +73,8 @@ const RUNS: [Run; 8] = [
     },
 ];
 
-// A step of a story: one line and what is shown of it, or the four lines of a whole request of a client's first thread,
-// with what its call shows and the reply that is taken.
+// A step of a story: one line and what is shown of it, or the four lines of a whole request of a
+// client's first thread, with what its call shows and the reply that is taken.
 #[derive(Clone, Copy)]
 enum Step {
     Line(&'static str, &'static str),

@@ -14,15 +14,16 @@ use lr_text::Text;
 use lr_world::World;
 use std::alloc::Global;
 
-/// `lockd play`: reads a schedule line by line, applies each event to a new world, and writes a line for
-/// each event before it reads the next. It waits for nobody and always returns.
+/// `lockd play`: reads a schedule line by line, applies each event to a new world, and writes a line
+/// for each event before it reads the next. It waits for nobody and always returns.
 ///
-/// What is left in the source and held by the sink at each status is told for each source and sink that
-/// tell their bytes (`EndsSo`): at Done all was read and all that its events show was written; at BadLine
-/// and TooMany what the lines up to that line show; at ReadFault what the whole lines read so far show; at
-/// WriteFault and NoMemory a front of such a text. Each names the events of the run: their texts are the lines, and after each of them the
-/// history is legal, holds each caller's calls once and in order, and no two claims that conflict are
-/// held at once. Want of memory may end a run at any line.
+/// What is left in the source and held by the sink at each status is told for each source and sink
+/// that tell their bytes (`EndsSo`): at Done all was read and all that its events show was written; at
+/// BadLine and TooMany what the lines up to that line show; at ReadFault what the whole lines read so
+/// far show; at WriteFault and NoMemory a front of such a text. Each names the events of the run:
+/// their texts are the lines, and after each of them the history is legal, holds each caller's calls
+/// once and in order, and no two claims that conflict are held at once. Want of memory may end a run
+/// at any line.
 pub fn play_top<S: Source, K: Sink>(
     alloc: Global,
     words: &[Text],
@@ -44,15 +45,17 @@ pub fn play_top<S: Source, K: Sink>(
     ensures write_counts { CountsFaults (K.faults sink.old) (K.faults sink.new)
         (is_write_fault result) }
 
-    // A schedule whose lines are all events runs through, unless a count of faults rises or memory runs out.
+    // A schedule whose lines are all events runs through, unless a count of faults rises or memory
+    // runs out.
     ensures complete { (all before : List ℕ) (events : List Event) → IsPlay words.now
-        → S.left source.old ≡ Some all → K.held sink.old ≡ Some before → AreLinesOf 1 (lines_of all) events
+        → S.left source.old ≡ Some all → K.held sink.old ≡ Some before
+        → AreLinesOf 1 (lines_of all) events
         → (Rose (S.faults source.old) (S.faults source.new) → ⊥)
         → (Rose (K.faults sink.old) (K.faults sink.new) → ⊥)
         → (result ≡ Status.Done) ⊎ (result ≡ Status.NoMemory) }
 
-    // After each event of each schedule the history is legal, holds each caller's calls once and in order, and
-    // no two claims that conflict are held at once.
+    // After each event of each schedule the history is legal, holds each caller's calls once and in
+    // order, and no two claims that conflict are held at once.
     ensures every_event { (events : List Event) → AllByRecursion IsWithin events → GoesWell events }
 {
     if !is_play(words) {

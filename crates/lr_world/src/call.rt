@@ -23,11 +23,14 @@ pub(crate) fn call(
     op: &Op,
 ) -> Result<Replied, AllocError>
     requires first { server.old.last ≡ 128 }
-    requires may { MayFollow (after first_state server.old.entries) (call_entry moment caller conn op.now) }
+    requires may { MayFollow (after first_state server.old.entries)
+        (call_entry moment caller conn op.now) }
     requires room { length server.old.entries < entry_limit }
     requires early { moment ≤ last_moment }
-    ensures replied { IfOk result (λ r. r ≡ replied_at (after first_state server.old.entries) moment op.now) }
-    ensures entry { OnOk result (server.new ≡ with_entry server.old (call_entry moment caller conn op.now)) }
+    ensures replied { IfOk result (λ r. r
+        ≡ replied_at (after first_state server.old.entries) moment op.now) }
+    ensures entry { OnOk result (server.new
+        ≡ with_entry server.old (call_entry moment caller conn op.now)) }
     ensures err { OnErr result (server.new ≡ server.old) }
 {
     match server.step(moment, caller, conn, &Request::Call(*op)) {

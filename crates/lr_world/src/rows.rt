@@ -139,7 +139,8 @@ pub(crate) fn begin(
         (phase_of (request_of requests.old id))) }
     ensures clients { let client = clients_of requests.old id.client in
         OnOk result (clients_of requests.new
-        ≡ clients_after (clients_of requests.old) id.client (begin_row id.thread mode want client)) }
+        ≡ clients_after (clients_of requests.old) id.client
+        (begin_row id.thread mode want client)) }
     ensures err { OnErr result (requests.new ≡ requests.old) }
 {
     if let Some(waiter) = requests.get(id) {
@@ -158,9 +159,11 @@ pub(crate) fn begin(
 /// A thread's call is sent.
 pub(crate) fn ask(requests: &mut Requests, id: ThreadId, moment: u64) -> Shown
     requires { IsThread id.thread }
-    ensures shown { let row = ask_row (owner_of id.client id.thread) moment (clients_of requests.old id.client) in
+    ensures shown { let client = clients_of requests.old id.client in
+        let row = ask_row (owner_of id.client id.thread) moment client in
         result ≡ shown_row shows.Asked row (phase_of (request_of requests.old id)) }
-    ensures clients { let row = ask_row (owner_of id.client id.thread) moment (clients_of requests.old id.client) in
+    ensures clients { let client = clients_of requests.old id.client in
+        let row = ask_row (owner_of id.client id.thread) moment client in
         clients_of requests.new ≡ clients_after (clients_of requests.old) id.client row }
 {
     let found = requests.get(id);
@@ -179,7 +182,8 @@ pub(crate) fn take(requests: &mut Requests, id: ThreadId) -> Shown
     ensures shown { let request = request_of requests.old id in
         result ≡ shown_take (waiting_reply request) (phase_of request) }
     ensures clients { clients_of requests.new
-        ≡ clients_after (clients_of requests.old) id.client (take_row id.thread (clients_of requests.old id.client)) }
+        ≡ clients_after (clients_of requests.old) id.client
+        (take_row id.thread (clients_of requests.old id.client)) }
 {
     let found = requests.get(id);
     let Some(waiter) = found else {

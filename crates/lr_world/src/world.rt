@@ -159,9 +159,11 @@ fn force(server: &mut ServerState, name: Name, moment: u64) -> Result<Shown, All
     requires room { length server.old.entries < entry_limit }
     requires early { moment ≤ last_moment }
     ensures shown { IfOk result (λ s. s
-        ≡ shows.Replied (replied_at (after first_state server.old.entries) moment (LockForce name))) }
+        ≡ shows.Replied
+        (replied_at (after first_state server.old.entries) moment (LockForce name))) }
     ensures entry { OnOk result (server.new.entries
-        ≡ server.old.entries ++ call_entry moment operator operator_connection (LockForce name) ∷ []) }
+        ≡ server.old.entries
+        ++ call_entry moment operator operator_connection (LockForce name) ∷ []) }
     ensures last { server.new.last ≡ server.old.last }
     ensures err { OnErr result (server.new ≡ server.old) }
 {
