@@ -1,13 +1,18 @@
+ghost use Rattle.std.specs.Prelude.{◌≡◌};
+ghost use Rattle.lr_model.specs.Within.{MayBegin, IsWithin};
+
 use crate::World;
 use lr_model::{Event, Shown};
 use lr_names::Name;
-use lr_objects::{Function, Lease, Mode, Reply, Want};
-use std::alloc::{AllocError, Global};
+use lr_objects::{Function, Lease, Mode, Want};
 use std::test::Fail;
 use uuid::Uuid;
 
 // Thread 1 of client 1 wants a lock.
-fn begin(name: Name) -> Event {
+fn begin(name: Name) -> Event
+    ensures within { IsWithin result }
+    ensures begins { MayBegin result }
+{
     Event::Begin {
         client: 1,
         thread: 1,
@@ -22,20 +27,25 @@ fn begin(name: Name) -> Event {
     }
 }
 
-// Whether a lock is asked for and granted in a new world, and its call stands in the history.
-fn is_granted(alloc: Global, name: Name) -> Result<bool, AllocError> {
-    let (client, thread) = (1, 1);
-    let mut world = World::new(alloc)?;
-    let begun = world.apply(&begin(name))? == Shown::Fresh;
-    let sent = world.apply(&Event::Ask { client, thread })? == Shown::Asked;
-    let _replied = world.apply(&Event::Exec { client, thread })?;
-    let taken = world.apply(&Event::Take { client, thread })? == Shown::Done(Reply::Granted);
-    Ok(begun && sent && taken && world.history().len() == 1)
+// Whether a request begins in a new world.
+fn is_begun(world: &mut World, name: Name) -> bool
+    requires { world.old.applied ≡ 0 }
+{
+    let Ok(shown) = world.apply(&begin(name)) else {
+        return false;
+    };
+    is_fresh(&shown)
+}
+
+fn is_fresh(shown: &Shown) -> bool {
+    matches!(shown, Shown::Fresh)
 }
 
 #[test]
-fn a_lock_is_granted(rt: HostRuntime) -> Result<(), Fail> {
+fn a_request_begins(rt: HostRuntime) -> Result<(), Fail> {
     let name = Name::parse(b"a")?;
-    assert!(rt; is_granted(rt.alloc(), name)?);
+    let mut world = World::new(rt.alloc())?;
+    assert!(rt; is_begun(&mut world, name));
+    assert!(rt; world.history().is_empty());
     Ok(())
 }
