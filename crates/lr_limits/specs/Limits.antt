@@ -45,6 +45,10 @@ watchdog_lease = 30000
 abbrev pub hold_limit : ℕ
 hold_limit = 1000000
 
+-- the last token of a fenced lock: 2 to the 53rd, less 1, so that every client can hold it exactly
+abbrev pub token_limit : ℕ
+token_limit = 9007199254740991
+
 -- permits or counts of an object, and how many are asked for at once
 abbrev pub amount_limit : ℕ
 amount_limit = 1000000000

@@ -40,6 +40,9 @@ pub const WATCHDOG_LEASE: u64 = 30_000;
 /// How many times an owner may hold an object at once.
 pub const MOST_HOLDS: u64 = 1_000_000;
 
+/// The last token of a fenced lock: 2 to the 53rd, less 1, which every client can hold exactly.
+pub const LAST_TOKEN: u64 = 9_007_199_254_740_991;
+
 /// The greatest number of permits or counts of an object, and of those asked for at once.
 pub const MOST_AMOUNT: u64 = 1_000_000_000;
 

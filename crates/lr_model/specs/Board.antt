@@ -1,5 +1,6 @@
--- The board: which connections are open, what they subscribe to, and what waits to be sent to them. After PUBLISH
--- and the arrays that a subscriber of Redis gets. Outboxes have a limit of this project's own.
+-- The board: which connections are open, what they subscribe to, and what waits to be sent to them.
+-- After PUBLISH and the arrays that a subscriber of Redis gets. Outboxes have a limit of this
+-- project's own.
 use Rattle.std.specs.Prelude.{ℕ, zero, suc, ◌==◌, nat_lt, List, [], ◌∷◌, ◌++◌, length, drop, filter, Bool, true, false, not, ◌&&◌, Option, Some, None, is_some, if◌then◌else◌}
 use Rattle.std.specs.List.{list_any}
 use Rattle.std.specs.Str.{bytes_eq}
@@ -13,7 +14,8 @@ use Rattle.lr_names.specs.declared.post.Push.{Push}
 use Rattle.lr_names.specs.declared.post.Push.TheVariants.{Subscribed, Unsubscribed, Message}
 use Rattle.lr_model.specs.Table.{put}
 
--- a connection: who opened it, its channels in order of subscribing, what waits to be sent, and whether it was dropped
+-- a connection: who opened it, its channels in order of subscribing, what waits to be sent, and
+-- whether it was dropped
 pub record Connection : Type 0 where
   pub opener : Option ℕ
   pub channels : List ChannelOf
@@ -58,7 +60,9 @@ same_queue_owner (Some a) (Some b) = same_owner a b
 
 -- whether two channels are one
 unfoldable pub same_channel : ChannelOf → ChannelOf → Bool
-same_channel a b = (kind_number a.kind == kind_number b.kind) && bytes_eq a.name b.name && same_queue_owner a.owner b.owner
+same_channel a b =
+    (kind_number a.kind == kind_number b.kind) && bytes_eq a.name b.name
+    && same_queue_owner a.owner b.owner
 
 -- whether a connection has subscribed to a channel
 abbrev pub has_channel : ChannelOf → Connection → Bool
@@ -78,17 +82,19 @@ is_overrun post connection = has_channel post.channel connection && not (has_roo
 
 -- a connection that reads too slowly: it loses its channels and what waited for it
 abbrev pub dropped_connection : Connection → Connection
-dropped_connection connection = record { opener = connection.opener; channels = []; outbox = []; dropped = true }
+dropped_connection connection =
+    record { opener = connection.opener; channels = []; outbox = []; dropped = true }
 
 -- a connection with one more item in its outbox
 abbrev pub with_item : Push → Connection → Connection
-with_item push connection = record { opener = connection.opener; channels = connection.channels; outbox = connection.outbox ++ push ∷ []; dropped = connection.dropped }
+with_item push connection = record connection { outbox = connection.outbox ++ push ∷ [] }
 
 -- a connection after a message
 abbrev pub connection_after_post : Post → Connection → Connection
 connection_after_post post connection =
     if has_channel post.channel connection
-    then (if has_room connection then with_item (Message post.channel post.wakes) connection else dropped_connection connection)
+    then (if has_room connection then with_item (Message post.channel post.wakes) connection
+    else dropped_connection connection)
     else connection
 
 -- A message goes to exactly those that have subscribed.
@@ -103,34 +109,44 @@ numbers_below (suc n) test = numbers_below n test ++ (if test n then n ∷ [] el
 
 -- how many connections a message reaches, and which it drops
 abbrev pub reached_by : Post → Board → ℕ
-reached_by post board = length (numbers_below connection_limit (λ conn. is_reached post (board conn)))
+reached_by post board =
+    length (numbers_below connection_limit (λ conn. is_reached post (board conn)))
 
 abbrev pub dropped_by : Post → Board → List ℕ
 dropped_by post board = numbers_below connection_limit (λ conn. is_overrun post (board conn))
 
 -- the channels with one more, where it isn't among them
 abbrev pub with_channel : ChannelOf → Connection → List ChannelOf
-with_channel channel connection = if has_channel channel connection then connection.channels else connection.channels ++ channel ∷ []
+with_channel channel connection =
+    if has_channel channel connection then connection.channels
+    else connection.channels ++ channel ∷ []
 
 -- the channels without one
 abbrev pub without_channel : ChannelOf → Connection → List ChannelOf
-without_channel channel connection = filter (λ other. not (same_channel channel other)) connection.channels
+without_channel channel connection =
+    filter (λ other. not (same_channel channel other)) connection.channels
 
 -- the connection with these channels, and the acknowledgement in its outbox
 abbrev pub with_acknowledgement : List ChannelOf → Push → Connection → Connection
-with_acknowledgement channels push connection = record { opener = connection.opener; channels = channels; outbox = connection.outbox ++ push ∷ []; dropped = connection.dropped }
+with_acknowledgement channels push connection =
+    record connection { channels = channels; outbox = connection.outbox ++ push ∷ [] }
 
 -- a connection after it subscribes to a channel; a repeat is acknowledged again
 abbrev pub connection_after_subscribe : ChannelOf → Connection → Connection
-connection_after_subscribe channel connection = with_acknowledgement (with_channel channel connection) (Subscribed channel (length (with_channel channel connection))) connection
+connection_after_subscribe channel connection =
+    with_acknowledgement (with_channel channel connection)
+    (Subscribed channel (length (with_channel channel connection))) connection
 
 -- a connection after it leaves a channel
 abbrev pub connection_after_unsubscribe : ChannelOf → Connection → Connection
-connection_after_unsubscribe channel connection = with_acknowledgement (without_channel channel connection) (Unsubscribed (Some channel) (length (without_channel channel connection))) connection
+connection_after_unsubscribe channel connection =
+    with_acknowledgement (without_channel channel connection)
+    (Unsubscribed (Some channel) (length (without_channel channel connection))) connection
 
 -- a connection after its first items were handed out
 abbrev pub connection_after_drain : ℕ → Connection → Connection
-connection_after_drain most connection = record { opener = connection.opener; channels = connection.channels; outbox = drop most connection.outbox; dropped = connection.dropped }
+connection_after_drain most connection =
+    record connection { outbox = drop most connection.outbox }
 
 -- the board with another connection at a number
 abbrev pub with_connection : Board → ℕ → Connection → Board

@@ -65,7 +65,8 @@ AreNumbers client thread = IsNumber client × IsNumber thread
 
 -- what a schedule can say
 abbrev pub IsEvent : Event → Type 0
-IsEvent (Begin client thread mode want) = AreNumbers client thread × CanBegin mode want × IsSpelled want
+IsEvent (Begin client thread mode want) =
+    AreNumbers client thread × CanBegin mode want × IsSpelled want
 IsEvent (Ask client thread) = AreNumbers client thread
 IsEvent (Exec client thread) = AreNumbers client thread
 IsEvent (Take client thread) = AreNumbers client thread

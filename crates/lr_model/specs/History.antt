@@ -1,4 +1,5 @@
--- The state of the server after each entry of its history, what each entry gave, and which histories are legal.
+-- The state of the server after each entry of its history, what each entry gave, and which
+-- histories are legal.
 use Rattle.std.specs.Prelude.{◌≡◌, ◌≢◌, ℕ, ◌≤◌, nat_le, List, [], ◌∷◌, length, take, IsTrue, false, Some, if◌then◌else◌, unwrap_or, slice_get}
 use Rattle.lr_names.specs.declared.post.Push.{Push}
 use Rattle.lr_objects.specs.declared.reply.Reply.{Reply}
@@ -17,7 +18,11 @@ pub record State : Type 0 where
 -- a server that has just started, with the connections 0 to the last one open, by caller 0
 abbrev pub state_at_start : ℕ → State
 state_at_start last =
-    record { moment = 0; objects = no_objects; board = λ conn. if nat_le conn last then new_connection 0 else closed_connection }
+    record {
+      moment = 0;
+      objects = no_objects;
+      board = λ conn. if nat_le conn last then new_connection 0 else closed_connection;
+    }
 
 -- the number that the next connection gets: the least free one
 abbrev pub next_number : Board → ℕ
@@ -30,11 +35,14 @@ objects_by state moment _ = state.objects
 
 -- the board after an act
 abbrev pub board_by : State → Entry → Act → Board
-board_by state entry (Call op) = board_after_post (post_of state.objects entry.moment op) state.board
+board_by state entry (Call op) =
+    board_after_post (post_of state.objects entry.moment op) state.board
 board_by state entry (Subscribe channel) =
-    with_connection state.board entry.conn (connection_after_subscribe channel (state.board entry.conn))
+    with_connection state.board entry.conn
+    (connection_after_subscribe channel (state.board entry.conn))
 board_by state entry (Unsubscribe channel) =
-    with_connection state.board entry.conn (connection_after_unsubscribe channel (state.board entry.conn))
+    with_connection state.board entry.conn
+    (connection_after_unsubscribe channel (state.board entry.conn))
 board_by state entry Open = with_connection state.board entry.conn (new_connection entry.caller)
 board_by state entry Close = with_connection state.board entry.conn closed_connection
 board_by state entry (Drain most) =
@@ -48,8 +56,8 @@ step state entry = record {
   board = board_by state entry entry.act;
 }
 
--- what an entry gives: a reply, the number of channels that the connection then has, the number of a new connection, the
--- items that are handed out, or nothing but the close
+-- what an entry gives: a reply, the number of channels that the connection then has, the number of
+-- a new connection, the items that are handed out, or nothing but the close
 pub data EntryResult : Type 0 where
   Replies : Reply → EntryResult
   Counts : ℕ → EntryResult
@@ -60,8 +68,10 @@ pub data EntryResult : Type 0 where
 -- what an act gives in a state
 abbrev pub result_by : State → Entry → Act → EntryResult
 result_by state entry (Call op) = Replies (reply_of state.objects entry.moment op)
-result_by state entry (Subscribe channel) = Counts (length (with_channel channel (state.board entry.conn)))
-result_by state entry (Unsubscribe channel) = Counts (length (without_channel channel (state.board entry.conn)))
+result_by state entry (Subscribe channel) =
+    Counts (length (with_channel channel (state.board entry.conn)))
+result_by state entry (Unsubscribe channel) =
+    Counts (length (without_channel channel (state.board entry.conn)))
 result_by state entry Open = Opens (next_number state.board)
 result_by state entry Close = Closes
 result_by state entry (Drain most) = HandsOut (take most (state.board entry.conn).outbox)

@@ -1,5 +1,5 @@
--- The hold of one owner, after the reentrant lock of the Redisson guide: nothing, or an owner with a hold count and a
--- deadline. It is what the plain, the fair and the fenced lock have in common.
+-- The hold of one owner, after the reentrant lock of the Redisson guide: nothing, or an owner with
+-- a hold count and a deadline. It is what the plain, the fair and the fenced lock have in common.
 use Rattle.std.specs.Prelude.{ℕ, ◌+◌, ◌-◌, ◌==◌, Option, Some, None, if◌then◌else◌}
 use Rattle.lr_limits.specs.Limits.{hold_limit}
 use Rattle.lr_names.specs.Owner.{ThreadOfClient, same_owner}
@@ -24,8 +24,8 @@ holding reply owner count deadline =
 abbrev pub freeing : Option Post → Outcome (Option Hold)
 freeing post = record { reply = Freed; object = None; post = post }
 
--- Taking: what nobody holds is granted. The owner takes it once more, at most a million times. Another is told how long
--- the hold lasts.
+-- Taking: what nobody holds is granted. The owner takes it once more, at most a million times.
+-- Another is told how long the hold lasts.
 abbrev pub take_hold : ℕ → ThreadOfClient → ℕ → Option Hold → Outcome (Option Hold)
 take_hold moment owner lease None = holding Granted owner 1 (moment + lease)
 take_hold moment owner lease (Some hold) =
@@ -35,11 +35,13 @@ take_hold moment owner lease (Some hold) =
     else silent_outcome (Busy (hold.deadline - moment)) (Some hold)
 
 -- Giving one hold back: the last one frees, with the message. What stays lasts for the rest lease.
-abbrev pub give_back_hold : Option Post → ℕ → ThreadOfClient → ℕ → Option Hold → Outcome (Option Hold)
+abbrev pub give_back_hold : Option Post → ℕ → ThreadOfClient → ℕ → Option Hold
+    → Outcome (Option Hold)
 give_back_hold post moment owner rest None = silent_outcome NotHeld None
 give_back_hold post moment owner rest (Some hold) =
     if same_owner hold.owner owner
-    then (if hold.count == 1 then freeing post else holding Kept owner (hold.count - 1) (moment + rest))
+    then (if hold.count == 1 then freeing post
+    else holding Kept owner (hold.count - 1) (moment + rest))
     else silent_outcome NotHeld (Some hold)
 
 -- renewing the lease of one's own hold

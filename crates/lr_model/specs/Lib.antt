@@ -3,10 +3,16 @@ pub mod Table
 pub mod Outcome
 pub mod Hold
 pub mod Mutex
+pub mod Fenced
+pub mod Semaphore
+pub mod Countdown
 pub mod Answer
 pub mod Board
 pub mod History
 pub mod Tenure
+pub mod Told
+pub mod Tokens
+pub mod Counts
 pub mod World
 pub mod Within
 pub mod EventText

@@ -1,8 +1,10 @@
--- Moments and leases, in milliseconds. A key of Redis is gone from the millisecond of its expiry on.
+-- Moments and leases, in milliseconds. A key of Redis is gone from the millisecond of its expiry
+-- on.
 use Rattle.std.specs.Prelude.{ℕ, max, min, nat_lt, nat_le, Bool, ◌&&◌}
 use Rattle.lr_limits.specs.Limits.{last_moment, longest_lease}
 
--- The moment after a clock shows this. Time never falls, and a later reading than the last moment counts as that.
+-- The moment after a clock shows this. Time never falls, and a later reading than the last moment
+-- counts as that.
 abbrev pub later : ℕ → ℕ → ℕ
 later now reading = max now (min reading last_moment)
 

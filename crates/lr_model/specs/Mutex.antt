@@ -1,5 +1,5 @@
--- The reentrant lock, after the lock of the Redisson guide: the hold of one owner. Its functions see the lock as it
--- stands, with a hold that may have expired.
+-- The reentrant lock, after the lock of the Redisson guide: the hold of one owner. Its functions
+-- see the lock as it stands, with a hold that may have expired.
 use Rattle.std.specs.Prelude.{ℕ, List, Option, Some, None}
 use Rattle.lr_names.specs.Owner.{ThreadOfClient}
 use Rattle.lr_names.specs.Post.{post_to}
@@ -14,14 +14,17 @@ abbrev pub lock_post : List ℕ → Post
 lock_post name = post_to (record { kind = Mutex; name = name; owner = None })
 
 abbrev pub lock_try : ℕ → ThreadOfClient → ℕ → Option Hold → Outcome (Option Hold)
-lock_try moment owner lease lock = with_lease lease lock (take_hold moment owner lease (live_hold moment lock))
+lock_try moment owner lease lock =
+    with_lease lease lock (take_hold moment owner lease (live_hold moment lock))
 
 abbrev pub lock_unlock : List ℕ → ℕ → ThreadOfClient → ℕ → Option Hold → Outcome (Option Hold)
 lock_unlock name moment owner rest lock =
-    with_lease rest lock (give_back_hold (Some (lock_post name)) moment owner rest (live_hold moment lock))
+    with_lease rest lock
+    (give_back_hold (Some (lock_post name)) moment owner rest (live_hold moment lock))
 
 abbrev pub lock_renew : ℕ → ThreadOfClient → ℕ → Option Hold → Outcome (Option Hold)
-lock_renew moment owner lease lock = with_lease lease lock (renew_hold moment owner lease (live_hold moment lock))
+lock_renew moment owner lease lock =
+    with_lease lease lock (renew_hold moment owner lease (live_hold moment lock))
 
 abbrev pub lock_force : List ℕ → ℕ → Option Hold → Outcome (Option Hold)
 lock_force name moment lock = end_hold (Some (lock_post name)) (live_hold moment lock)

@@ -3,11 +3,11 @@ use Rattle.std.specs.Prelude.{◌≡◌, ℕ, ◌+◌, ◌-◌, ◌≤◌, nat_l
 use Rattle.std.specs.Str.{bytes_eq}
 use Rattle.lr_names.specs.Owner.{ThreadOfClient, same_owner}
 use Rattle.lr_names.specs.declared.kind.Kind.{Kind}
-use Rattle.lr_names.specs.declared.kind.Kind.TheVariants.{Mutex}
+use Rattle.lr_names.specs.declared.kind.Kind.TheVariants.{Mutex, Fenced}
 use Rattle.lr_objects.specs.declared.op.Op.{Op}
-use Rattle.lr_objects.specs.declared.op.Op.TheVariants.{LockTry, LockUnlock, LockRenew, LockForce}
+use Rattle.lr_objects.specs.declared.op.Op.TheVariants.{LockTry, LockUnlock, LockRenew, LockForce, FencedTry, FencedUnlock, FencedRenew}
 use Rattle.lr_objects.specs.declared.reply.Reply.{Reply}
-use Rattle.lr_objects.specs.declared.reply.Reply.TheVariants.{Granted, Kept, Freed, Renewed}
+use Rattle.lr_objects.specs.declared.reply.Reply.TheVariants.{Granted, GrantedToken, Kept, Freed, Renewed}
 use Rattle.lr_objects.specs.Op.{kind_of, name_of}
 use Rattle.lr_model.specs.declared.entry.Act.{Act}
 use Rattle.lr_model.specs.declared.entry.Act.TheVariants.{Call}
@@ -41,10 +41,19 @@ pub record Claim : Type 0 where
 
 -- the claim that a call of its owner takes, gives back or renews, if it does
 abbrev pub claim_of : Op → Option Claim
-claim_of (LockTry name owner lease) = Some (record { kind = Mutex; name = name; mode = Exclusive; owner = owner })
-claim_of (LockUnlock name owner rest) = Some (record { kind = Mutex; name = name; mode = Exclusive; owner = owner })
-claim_of (LockRenew name owner lease) = Some (record { kind = Mutex; name = name; mode = Exclusive; owner = owner })
-claim_of (LockForce name) = None
+claim_of (LockTry name owner lease) =
+    Some (record { kind = Mutex; name = name; mode = Exclusive; owner = owner })
+claim_of (LockUnlock name owner rest) =
+    Some (record { kind = Mutex; name = name; mode = Exclusive; owner = owner })
+claim_of (LockRenew name owner lease) =
+    Some (record { kind = Mutex; name = name; mode = Exclusive; owner = owner })
+claim_of (FencedTry name owner lease) =
+    Some (record { kind = Fenced; name = name; mode = Exclusive; owner = owner })
+claim_of (FencedUnlock name owner rest) =
+    Some (record { kind = Fenced; name = name; mode = Exclusive; owner = owner })
+claim_of (FencedRenew name owner lease) =
+    Some (record { kind = Fenced; name = name; mode = Exclusive; owner = owner })
+claim_of _ = None
 
 -- whether a call takes an object from whoever holds it
 abbrev pub ends_all_holds : Op → Bool
@@ -56,7 +65,10 @@ abbrev pub lease_given : Op → ℕ
 lease_given (LockTry name owner lease) = lease
 lease_given (LockUnlock name owner rest) = rest
 lease_given (LockRenew name owner lease) = lease
-lease_given (LockForce name) = 0
+lease_given (FencedTry name owner lease) = lease
+lease_given (FencedUnlock name owner rest) = rest
+lease_given (FencedRenew name owner lease) = lease
+lease_given _ = 0
 
 -- whether two claims are of one object
 abbrev pub same_object : Claim → Kind → List ℕ → Bool
@@ -64,23 +76,26 @@ same_object claim kind name = same_kind claim.kind kind && bytes_eq claim.name n
 
 -- whether two claims are one
 abbrev pub same_claim : Claim → Claim → Bool
-same_claim a b = same_object a b.kind b.name && same_mode a.mode b.mode && same_owner a.owner b.owner
+same_claim a b =
+    same_object a b.kind b.name && same_mode a.mode b.mode && same_owner a.owner b.owner
 
 -- whether a call's own claim is this one
 abbrev pub is_claim : Claim → Option Claim → Bool
 is_claim claim None = false
 is_claim claim (Some other) = same_claim claim other
 
--- whether the reply to a call may change the tenure of a claim: it is of the owner's own call, or of one that takes the
--- object from whoever holds it
+-- whether the reply to a call may change the tenure of a claim: it is of the owner's own call, or
+-- of one that takes the object from whoever holds it
 abbrev pub concerns : Op → Claim → Bool
 concerns op claim =
-    is_claim claim (claim_of op) || (ends_all_holds op && same_object claim (kind_of op) (name_of op))
+    is_claim claim (claim_of op)
+    || (ends_all_holds op && same_object claim (kind_of op) (name_of op))
 
 -- two claims that can't be held at once: another owner has the object, and one of them alone
 abbrev pub conflicts : Claim → Claim → Bool
 conflicts a b =
-    same_object a b.kind b.name && not (same_owner a.owner b.owner) && (is_exclusive a.mode || is_exclusive b.mode)
+    same_object a b.kind b.name && not (same_owner a.owner b.owner)
+    && (is_exclusive a.mode || is_exclusive b.mode)
 
 -- how often an owner has taken an object without giving it back, and until when that counts
 pub record Tenure : Type 0 where
@@ -95,13 +110,23 @@ no_tenure = record { count = 0; deadline = 0 }
 abbrev pub is_current : Tenure → ℕ → Bool
 is_current tenure moment = nat_lt 0 tenure.count && is_live tenure.deadline moment
 
--- A granted try counts one more where the tenure is current, and else begins anew. One hold that is given back and stays
--- takes one away. A renewal gives another deadline, and the last hold that is given back ends the tenure.
+-- a granted try counts one more where the tenure is current, and else begins anew
+abbrev pub tenure_granted : ℕ → ℕ → Tenure → Tenure
+tenure_granted moment lease tenure =
+    record {
+      count = if is_current tenure moment then tenure.count + 1 else 1;
+      deadline = moment + lease;
+    }
+
+-- A try may be granted. One hold that is given back and stays takes one away. A renewal gives
+-- another deadline, and the last hold that is given back ends the tenure.
 abbrev pub tenure_by_reply : ℕ → ℕ → Reply → Tenure → Tenure
-tenure_by_reply moment lease Granted tenure =
-    record { count = if is_current tenure moment then tenure.count + 1 else 1; deadline = moment + lease }
-tenure_by_reply moment lease Kept tenure = record { count = tenure.count - 1; deadline = moment + lease }
-tenure_by_reply moment lease Renewed tenure = record { count = tenure.count; deadline = moment + lease }
+tenure_by_reply moment lease Granted tenure = tenure_granted moment lease tenure
+tenure_by_reply moment lease (GrantedToken token) tenure = tenure_granted moment lease tenure
+tenure_by_reply moment lease Kept tenure =
+    record { count = tenure.count - 1; deadline = moment + lease }
+tenure_by_reply moment lease Renewed tenure =
+    record { count = tenure.count; deadline = moment + lease }
 tenure_by_reply moment lease Freed tenure = no_tenure
 tenure_by_reply moment lease _ tenure = tenure
 
@@ -120,7 +145,8 @@ tenure_by_act claim state moment _ tenure = tenure
 abbrev pub tenure_after : Claim → State → List Entry → Tenure → Tenure
 tenure_after claim state [] tenure = tenure
 tenure_after claim state (entry ∷ entries) tenure =
-    tenure_after claim (step state entry) entries (tenure_by_act claim state entry.moment entry.act tenure)
+    tenure_after claim (step state entry) entries
+    (tenure_by_act claim state entry.moment entry.act tenure)
 
 -- whether a claim is held at a moment after a history
 abbrev pub holds_at : State → List Entry → Claim → ℕ → Bool

@@ -18,7 +18,8 @@ use Rattle.lr_model.specs.World.{World, shown, next}
 -- the message that a call sent, and how many connections it reached
 abbrev pub post_text : Option Reached → List ℕ
 post_text None = []
-post_text (Some post) = codes " post " ++ channel_text post.channel ++ codes " " ++ decimal post.connections
+post_text (Some post) =
+    codes " post " ++ channel_text post.channel ++ codes " " ++ decimal post.connections
 
 abbrev pub found_word : Found → List ℕ
 found_word found.Idle = codes "idle"
@@ -44,12 +45,16 @@ bad_line number = codes "bad line " ++ decimal number ++ codes "\n"
 abbrev pub too_many_line : ℕ → List ℕ
 too_many_line number = codes "too many " ++ decimal number ++ codes "\n"
 
--- What a line is, by its number. A line that is the text of no event is bad, whatever its number. A line that is one
--- too many, or the text of an event of a client or thread outside the limits, is too many.
+-- What a line is, by its number. A line that is the text of no event is bad, whatever its number. A
+-- line that is one too many, or the text of an event of a client or thread outside the limits, is
+-- too many.
 abbrev pub IsLine : ℕ → List ℕ → ScheduleLine → Type 0
-IsLine number line (kinds.Event event) = (line ≡ event_text event) × IsEvent event × IsWithin event × (number ≤ event_limit)
+IsLine number line (kinds.Event event) =
+    (line ≡ event_text event) × IsEvent event × IsWithin event × (number ≤ event_limit)
 IsLine number line kinds.Bad = (event : Event) → IsEvent event → line ≢ event_text event
-IsLine number line kinds.TooMany = (event : Event) × (line ≡ event_text event) × IsEvent event × ¬ (IsWithin event × (number ≤ event_limit))
+IsLine number line kinds.TooMany =
+    (event : Event) × (line ≡ event_text event) × IsEvent event
+    × ¬ (IsWithin event × (number ≤ event_limit))
 
 -- these lines, from this number on, are the texts of these events
 abbrev pub AreLinesOf : ℕ → List (List ℕ) → List Event → Type 0

@@ -4,7 +4,8 @@ use Rattle.lr_objects.specs.declared.want.Mode.{Mode}
 use Rattle.lr_objects.specs.declared.want.Want.{Want}
 use Rattle.lr_model.specs.declared.waiter.Stage.{Stage}
 
--- how long it may wait, what it wants, how far it has come, and whether it counts among those that wait on its channel
+-- how long it may wait, what it wants, how far it has come, and whether it counts among those that
+-- wait on its channel
 pub record WaiterValue : Type 0 where
   pub mode : Mode
   pub want : Want

@@ -1,10 +1,11 @@
 -- What an event may name: this project's own limits, and what a request may begin with.
 use Rattle.std.specs.Prelude.{◌≡◌, ℕ, ◌≤◌, true}
-use Rattle.lr_limits.specs.Limits.{client_limit, amount_limit}
+use Rattle.lr_limits.specs.Limits.{client_limit}
 use Rattle.lr_names.specs.Owner.{IsThread}
 use Rattle.lr_objects.specs.Function.{arguments_of, begins}
+use Rattle.lr_objects.specs.Want.{HasAmount}
 use Rattle.lr_objects.specs.declared.function.Arguments.{Arguments}
-use Rattle.lr_objects.specs.declared.function.Arguments.TheVariants.{Number, IdAndLease}
+use Rattle.lr_objects.specs.declared.function.Arguments.TheVariants.{IdAndLease}
 use Rattle.lr_objects.specs.declared.want.Lease.TheVariants as leases
 use Rattle.lr_objects.specs.declared.want.Mode.{Mode}
 use Rattle.lr_objects.specs.declared.want.Mode.TheVariants.{Once}
@@ -25,21 +26,13 @@ IsWithin (Take client thread) = IsClient client × IsThread thread
 IsWithin (Tick moment) = Unit {0}
 IsWithin (Force name) = Unit {0}
 
--- a number of permits or counts
-abbrev pub IsAmount : ℕ → Type 0
-IsAmount n = (1 ≤ n) × (n ≤ amount_limit)
-
--- the number, where the function is given one
-abbrev pub HasAmount : Arguments → Want → Type 0
-HasAmount Number want = IsAmount want.number
-HasAmount _ want = Unit {0}
-
 -- the lease of a permit is a number of milliseconds: nobody renews it
 abbrev pub HasOwnLease : Arguments → Want → Type 0
 HasOwnLease IdAndLease want = (millis : ℕ) × (want.lease ≡ leases.For millis)
 HasOwnLease _ want = Unit {0}
 
--- what a request may begin with: a function that a request may begin with, and what that is given. None waits yet.
+-- what a request may begin with: a function that a request may begin with, and what that is given.
+-- None waits yet.
 pub record CanBegin (mode : Mode) (want : Want) : Type 0 where
   pub function : begins want.function ≡ true
   pub amount : HasAmount (arguments_of want.function) want

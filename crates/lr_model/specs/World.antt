@@ -1,5 +1,5 @@
--- The step table: what a schedule's event shows, and what it changes. Two functions by cases, over rows that are functions
--- of one client.
+-- The step table: what a schedule's event shows, and what it changes. Two functions by cases, over
+-- rows that are functions of one client.
 use Rattle.std.specs.Prelude.{ℕ, ◌+◌, ◌-◌, ◌*◌, ◌==◌, List, [], ◌∷◌, ◌++◌, false, Option, Some, None, if◌then◌else◌}
 use Rattle.std.specs.Int.{w128, to_be_bytes}
 use Rattle.std.specs.Option.{option_map}
@@ -78,11 +78,13 @@ operator_connection = 0
 
 -- the entry that a call makes
 abbrev pub call_entry : ℕ → ℕ → ℕ → Op → Entry
-call_entry moment caller conn op = record { moment = moment; caller = caller; conn = conn; act = Call op }
+call_entry moment caller conn op =
+    record { moment = moment; caller = caller; conn = conn; act = Call op }
 
 -- how many connections the message of a call reaches
 abbrev pub reached_post : Board → Option Post → Option Reached
-reached_post board post = option_map (λ p. record { channel = p.channel; connections = reached_by p board }) post
+reached_post board post =
+    option_map (λ p. record { channel = p.channel; connections = reached_by p board }) post
 
 -- what is shown of a call that the server runs at a moment
 abbrev pub replied_at : State → ℕ → Op → Replied
@@ -102,7 +104,8 @@ abbrev pub phase_of : Option Waiter → Found
 phase_of None = found.Idle
 phase_of (Some waiter) = phase_at waiter.stage
 
--- a request that begins. Its turn counts the tickets of a client, and nothing takes a ticket as long as no request waits.
+-- a request that begins. Its turn counts the tickets of a client, and nothing takes a ticket as
+-- long as no request waits.
 abbrev pub new_waiter : Mode → Want → Waiter
 new_waiter mode want = record { mode = mode; want = want; stage = Fresh 0; registered = false }
 
@@ -119,7 +122,8 @@ with_waiter client thread waiter = record client { waiters = put ◌==◌ client
 
 -- a thread without a request begins one
 abbrev pub begin_at : Client → ℕ → Mode → Want → Option Waiter → Option Client
-begin_at client thread mode want None = Some (with_waiter client thread (Some (new_waiter mode want)))
+begin_at client thread mode want None =
+    Some (with_waiter client thread (Some (new_waiter mode want)))
 begin_at client thread mode want (Some waiter) = None
 
 abbrev pub begin_row : ℕ → Mode → Want → Client → Option Client
@@ -135,7 +139,8 @@ asking_for owner moment waiter = record {
 }
 
 abbrev pub waiter_after_ask : ThreadOfClient → ℕ → Waiter → Stage → Option Waiter
-waiter_after_ask owner moment waiter (Fresh turn) = Some (with_stage waiter (Asked (asking_for owner moment waiter)))
+waiter_after_ask owner moment waiter (Fresh turn) =
+    Some (with_stage waiter (Asked (asking_for owner moment waiter)))
 waiter_after_ask owner moment waiter (Asked asking) = None
 waiter_after_ask owner moment waiter (Answered asking reply) = None
 
@@ -148,7 +153,8 @@ row_of client thread None = None
 row_of client thread (Some waiter) = Some (with_waiter client thread (Some waiter))
 
 abbrev pub ask_row : ThreadOfClient → ℕ → Client → Option Client
-ask_row owner moment client = row_of client owner.thread (ask_at owner moment (client.waiters owner.thread))
+ask_row owner moment client =
+    row_of client owner.thread (ask_at owner moment (client.waiters owner.thread))
 
 -- the call that a thread has sent and the server hasn't run
 abbrev pub asked_at : Stage → Option Asking
@@ -195,7 +201,8 @@ shown_row shown (Some client) phase = shown
 shown_row shown None phase = shows.No phase
 
 abbrev pub shown_exec : World → Option Asking → Found → Shown
-shown_exec world (Some asking) phase = shows.Replied (replied_at (state_of world) world.moment asking.op)
+shown_exec world (Some asking) phase =
+    shows.Replied (replied_at (state_of world) world.moment asking.op)
 shown_exec world None phase = shows.No phase
 
 abbrev pub shown_take : Option Reply → Found → Shown
@@ -210,11 +217,15 @@ abbrev pub shown : World → Event → Shown
 shown world (events.Begin c t mode want) =
     shown_row shows.Fresh (begin_row t mode want (world.clients c)) (phase_of (waiter_of world c t))
 shown world (events.Ask c t) =
-    shown_row shows.Asked (ask_row (owner_of c t) world.moment (world.clients c)) (phase_of (waiter_of world c t))
-shown world (events.Exec c t) = shown_exec world (asked_of (waiter_of world c t)) (phase_of (waiter_of world c t))
-shown world (events.Take c t) = shown_take (waiting_reply (waiter_of world c t)) (phase_of (waiter_of world c t))
+    shown_row shows.Asked (ask_row (owner_of c t) world.moment (world.clients c))
+    (phase_of (waiter_of world c t))
+shown world (events.Exec c t) =
+    shown_exec world (asked_of (waiter_of world c t)) (phase_of (waiter_of world c t))
+shown world (events.Take c t) =
+    shown_take (waiting_reply (waiter_of world c t)) (phase_of (waiter_of world c t))
 shown world (events.Tick moment) = shows.Moment (later world.moment moment)
-shown world (events.Force name) = shows.Replied (replied_at (state_of world) world.moment (LockForce name))
+shown world (events.Force name) =
+    shows.Replied (replied_at (state_of world) world.moment (LockForce name))
 
 -- What an event changes.
 
@@ -235,12 +246,15 @@ with_entry world caller conn op =
 abbrev pub next_exec : World → ℕ → ℕ → Option Asking → World
 next_exec world c t (Some asking) =
     next_row (with_entry world (caller_of c t) (command_connection c) asking.op) c
-    (Some (client_after_exec t asking (reply_of (state_of world).objects world.moment asking.op) (world.clients c)))
+    (Some
+    (client_after_exec t asking (reply_of (state_of world).objects world.moment asking.op)
+    (world.clients c)))
 next_exec world c t None = world
 
 abbrev pub next : World → Event → World
 next world (events.Begin c t mode want) = next_row world c (begin_row t mode want (world.clients c))
-next world (events.Ask c t) = next_row world c (ask_row (owner_of c t) world.moment (world.clients c))
+next world (events.Ask c t) =
+    next_row world c (ask_row (owner_of c t) world.moment (world.clients c))
 next world (events.Exec c t) = next_exec world c t (asked_of (waiter_of world c t))
 next world (events.Take c t) = next_row world c (take_row t (world.clients c))
 next world (events.Tick moment) = record world { moment = later world.moment moment }
@@ -262,7 +276,8 @@ pub record Deed : Type 0 where
 -- the deeds of a history
 abbrev pub deeds_of : List Entry → List Deed
 deeds_of [] = []
-deeds_of (entry ∷ entries) = record { caller = entry.caller; conn = entry.conn; act = entry.act } ∷ deeds_of entries
+deeds_of (entry ∷ entries) =
+    record { caller = entry.caller; conn = entry.conn; act = entry.act } ∷ deeds_of entries
 
 -- those of one caller among these, in order
 abbrev pub deeds_by : ℕ → List Deed → List Deed
@@ -288,4 +303,5 @@ deeds_of_event world (events.Tick moment) = []
 -- what these events make the server do, in their order
 abbrev pub deeds_made : World → List Event → List Deed
 deeds_made world [] = []
-deeds_made world (event ∷ events) = deeds_of_event world event ++ deeds_made (next world event) events
+deeds_made world (event ∷ events) =
+    deeds_of_event world event ++ deeds_made (next world event) events

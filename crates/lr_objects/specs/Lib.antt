@@ -1,3 +1,4 @@
+pub mod Amount
 pub mod Function
 pub mod Op
 pub mod Reply

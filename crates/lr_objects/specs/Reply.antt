@@ -1,12 +1,16 @@
 -- Replies and their texts: this project's own.
-use Rattle.std.specs.Prelude.{ℕ, List, [], ◌++◌, codes, decimal, Bool, true, false, Option, Some, None}
+use Rattle.std.specs.Prelude.{ℕ, nat_lt, List, [], ◌++◌, codes, decimal, Bool, true, false, Option, Some, None}
 use Rattle.lr_objects.specs.declared.function.Function.{Function}
+use Rattle.lr_objects.specs.declared.function.Function.TheVariants.{LatchCount}
 use Rattle.lr_objects.specs.declared.reply.Reply.{Reply}
-use Rattle.lr_objects.specs.declared.reply.Reply.TheVariants.{Granted, Busy, Kept, Freed, NotHeld, Renewed, Lost, TooDeep, BadLease}
+use Rattle.lr_objects.specs.declared.reply.Reply.TheVariants.{Granted, Busy, Kept, Freed, NotHeld, Renewed, Lost, TooDeep, BadLease, GrantedToken, Short, Set, AlreadySet, Count, TooMany, TokensSpent}
 
--- whether the one who asked has to wait: where another has the object
+-- whether the one who asked has to wait: where another has the object, where there are too few
+-- permits, and where a latch that is asked for its count isn't at 0
 abbrev pub blocks : Reply → Function → Bool
 blocks (Busy millis) function = true
+blocks Short function = true
+blocks (Count count) LatchCount = nat_lt 0 count
 blocks _ function = false
 
 -- the word of a reply
@@ -20,10 +24,19 @@ reply_word Renewed = codes "renewed"
 reply_word Lost = codes "lost"
 reply_word TooDeep = codes "too-deep"
 reply_word BadLease = codes "bad-lease"
+reply_word (GrantedToken token) = codes "token"
+reply_word Short = codes "short"
+reply_word Set = codes "set"
+reply_word AlreadySet = codes "already-set"
+reply_word (Count count) = codes "count"
+reply_word TooMany = codes "too-many"
+reply_word TokensSpent = codes "tokens-spent"
 
 -- the number that a reply tells besides
 abbrev pub reply_number : Reply → Option ℕ
 reply_number (Busy millis) = Some millis
+reply_number (GrantedToken token) = Some token
+reply_number (Count count) = Some count
 reply_number _ = None
 
 -- a number behind a word

@@ -14,6 +14,28 @@ pub enum Function {
     LockRenew,
     /// Take a lock away from whoever holds it.
     LockForce,
+    /// Take a fenced lock.
+    FencedTry,
+    /// Give one hold of a fenced lock back.
+    FencedUnlock,
+    /// Make the lease of a held fenced lock longer.
+    FencedRenew,
+    /// Ask for the last token of a fenced lock.
+    FencedToken,
+    /// Set the number of permits of a semaphore.
+    SemSet,
+    /// Take permits of a semaphore.
+    SemTry,
+    /// Give permits of a semaphore back, or add some.
+    SemRelease,
+    /// Ask how many permits of a semaphore are free.
+    SemCount,
+    /// Set the count of a countdown latch.
+    LatchSet,
+    /// Count a countdown latch down by one.
+    LatchDown,
+    /// Ask for the count of a countdown latch.
+    LatchCount,
 }
 
 /// What a function is given beside the object and its owner.
@@ -33,11 +55,22 @@ pub enum Arguments {
 
 impl Function {
     /// All functions.
-    pub const ALL: [Function; 4] = [
+    pub const ALL: [Function; 15] = [
         Function::LockTry,
         Function::LockUnlock,
         Function::LockRenew,
         Function::LockForce,
+        Function::FencedTry,
+        Function::FencedUnlock,
+        Function::FencedRenew,
+        Function::FencedToken,
+        Function::SemSet,
+        Function::SemTry,
+        Function::SemRelease,
+        Function::SemCount,
+        Function::LatchSet,
+        Function::LatchDown,
+        Function::LatchCount,
     ];
 
     /// The word of the function.
@@ -49,6 +82,17 @@ impl Function {
             Function::LockUnlock => b"lock_unlock",
             Function::LockRenew => b"lock_renew",
             Function::LockForce => b"lock_force",
+            Function::FencedTry => b"fenced_try",
+            Function::FencedUnlock => b"fenced_unlock",
+            Function::FencedRenew => b"fenced_renew",
+            Function::FencedToken => b"fenced_token",
+            Function::SemSet => b"sem_set",
+            Function::SemTry => b"sem_try",
+            Function::SemRelease => b"sem_release",
+            Function::SemCount => b"sem_count",
+            Function::LatchSet => b"latch_set",
+            Function::LatchDown => b"latch_down",
+            Function::LatchCount => b"latch_count",
         }
     }
 
@@ -74,8 +118,20 @@ impl Function {
         ensures { result ≡ arguments_of self }
     {
         match self {
-            Function::LockTry | Function::LockUnlock | Function::LockRenew => Arguments::Lease,
-            Function::LockForce => Arguments::Nothing,
+            Function::LockTry
+            | Function::LockUnlock
+            | Function::LockRenew
+            | Function::FencedTry
+            | Function::FencedUnlock
+            | Function::FencedRenew => Arguments::Lease,
+            Function::SemSet | Function::SemTry | Function::SemRelease | Function::LatchSet => {
+                Arguments::Number
+            }
+            Function::LockForce
+            | Function::FencedToken
+            | Function::SemCount
+            | Function::LatchDown
+            | Function::LatchCount => Arguments::Nothing,
         }
     }
 
@@ -83,9 +139,9 @@ impl Function {
     pub fn begins(self) -> bool
         ensures { result ≡ begins self }
     {
-        match self {
-            Function::LockTry | Function::LockUnlock => true,
-            Function::LockRenew | Function::LockForce => false,
-        }
+        !matches!(
+            self,
+            Function::LockRenew | Function::LockForce | Function::FencedRenew
+        )
     }
 }

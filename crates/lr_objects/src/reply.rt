@@ -42,6 +42,42 @@ impl Remaining {
     }
 }
 
+/// A number that a reply tells, of at most 63 bits, as an integer of Redis.
+#[derive(Clone, Copy, Debug, PartialEq, Eq)]
+pub struct Integer {
+    value: u64,
+}
+
+impl Model for Integer {
+    ghost use Rattle.std.specs.Prelude.{ℕ, ◌<◌, ◌^◌};
+
+    ghost Value = { ℕ };
+
+    ghost view = { λ i. i.value };
+
+    ghost invariant = { λ i. i.value < 2 ^ 63 };
+
+    ghost inverse = { λ value. record { value = value } };
+}
+
+impl Integer {
+    /// This number.
+    pub fn new(value: u64) -> Self
+        requires { value < 2 ^ 63 }
+        ensures { result ≡ value }
+    {
+        Integer { value }
+    }
+
+    /// The number.
+    pub fn value(&self) -> u64
+        ensures value { result ≡ self.now }
+        ensures fits { result < 2 ^ 63 }
+    {
+        self.value
+    }
+}
+
 /// What a function answers.
 #[derive(Clone, Copy, Debug, PartialEq, Eq)]
 pub enum Reply {
@@ -63,6 +99,20 @@ pub enum Reply {
     TooDeep,
     /// The lease isn't within 1 and 86,400,000,000 milliseconds.
     BadLease,
+    /// The lock was taken, with this token.
+    GrantedToken(Integer),
+    /// There are too few permits.
+    Short,
+    /// The number was set.
+    Set,
+    /// A number is set already, and stays.
+    AlreadySet,
+    /// So many there are now: permits, counts, or tokens that were given out.
+    Count(Integer),
+    /// There would be more than 1,000,000,000 permits.
+    TooMany,
+    /// The lock has given out its last token.
+    TokensSpent,
 }
 
 impl Reply {
@@ -81,24 +131,36 @@ impl Reply {
             Reply::Lost => b"lost",
             Reply::TooDeep => b"too-deep",
             Reply::BadLease => b"bad-lease",
+            Reply::GrantedToken(_) => b"token",
+            Reply::Short => b"short",
+            Reply::Set => b"set",
+            Reply::AlreadySet => b"already-set",
+            Reply::Count(_) => b"count",
+            Reply::TooMany => b"too-many",
+            Reply::TokensSpent => b"tokens-spent",
         }
     }
 
     /// The number that the reply tells besides: of a busy object, for how many milliseconds it
-    /// stays busy at most.
+    /// stays busy at most; a token; or a count.
     pub fn number(&self) -> Option<u64>
         ensures { result ≡ reply_number self.now }
     {
         match self {
             Reply::Busy(remaining) => Some(remaining.millis()),
+            Reply::GrantedToken(number) | Reply::Count(number) => Some(number.value()),
             _ => None,
         }
     }
 
     /// Whether the one who asked has to wait for the object.
-    pub fn blocks(&self, _function: Function) -> bool
-        ensures { result ≡ blocks self.now _function }
+    pub fn blocks(&self, function: Function) -> bool
+        ensures { result ≡ blocks self.now function }
     {
-        matches!(self, Reply::Busy(_))
+        match (self, function) {
+            (Reply::Busy(_) | Reply::Short, _) => true,
+            (Reply::Count(count), Function::LatchCount) => count.value() > 0,
+            _ => false,
+        }
     }
 }

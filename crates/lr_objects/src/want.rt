@@ -1,6 +1,8 @@
 ghost use Rattle.std.specs.Prelude.{◌≡◌, ℕ};
-ghost use Rattle.lr_objects.specs.Want.{op_of, lease_of};
+ghost use Rattle.lr_objects.specs.Function.{arguments_of};
+ghost use Rattle.lr_objects.specs.Want.{HasAmount, op_of, lease_of};
 
+use crate::amount::Amount;
 use crate::function::Function;
 use crate::op::Op;
 use lr_limits::WATCHDOG_LEASE;
@@ -49,7 +51,7 @@ pub struct Want {
     pub name: Name,
     /// The lease, or the lease that a hold that stays gets.
     pub lease: Lease,
-    /// How many permits or counts.
+    /// How many permits or counts: 1 to 1,000,000,000, where the function is given a number.
     pub number: u64,
     /// The id of a permit.
     pub id: Uuid,
@@ -59,6 +61,7 @@ impl Want {
     /// The call that this want is, by an owner, with a lease in milliseconds. `queue` tells whether
     /// a fair try may take a place in the queue.
     pub fn op(&self, owner: &Owner, lease: u64, queue: bool) -> Op
+        requires { HasAmount (arguments_of self.now.function) self.now }
         ensures { result ≡ op_of self.now owner.now lease queue }
     {
         let _ = queue;
@@ -72,6 +75,33 @@ impl Want {
             },
             Function::LockRenew => Op::LockRenew { name, owner, lease },
             Function::LockForce => Op::LockForce { name },
+            Function::FencedTry => Op::FencedTry { name, owner, lease },
+            Function::FencedUnlock => Op::FencedUnlock {
+                name,
+                owner,
+                rest: lease,
+            },
+            Function::FencedRenew => Op::FencedRenew { name, owner, lease },
+            Function::FencedToken => Op::FencedToken { name },
+            Function::SemSet => Op::SemSet {
+                name,
+                number: Amount::new(self.number),
+            },
+            Function::SemTry => Op::SemTry {
+                name,
+                number: Amount::new(self.number),
+            },
+            Function::SemRelease => Op::SemRelease {
+                name,
+                number: Amount::new(self.number),
+            },
+            Function::SemCount => Op::SemCount { name },
+            Function::LatchSet => Op::LatchSet {
+                name,
+                number: Amount::new(self.number),
+            },
+            Function::LatchDown => Op::LatchDown { name },
+            Function::LatchCount => Op::LatchCount { name },
         }
     }
 }
