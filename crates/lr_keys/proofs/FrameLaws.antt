@@ -1,11 +1,13 @@
 -- Laws of what a step leaves as it was, for the crates above.
-use Rattle.std.proofs.Common.{◌≡◌, ◌≢◌, ℕ, Bool, true, false, ◌||◌, List, [], ◌∷◌, ◌++◌, Option, Some, None, if◌then◌else◌, refl, ap, sym, ◌∙◌, true≢false}
+use Rattle.std.proofs.Common.{◌≡◌, ◌≢◌, ◌<◌, ℕ, Bool, true, false, ◌||◌, List, [], ◌∷◌, ◌++◌, Option, Some, None, if◌then◌else◌, refl, ap, sym, ◌∙◌, true≢false, arith}
 use Rattle.std.specs.List.{list_any}
+use Rattle.std.specs.Option.{ForSome}
 use Rattle.std.specs.Str.{bytes_eq}
+use Rattle.std.proofs.lemmas.Bool.Decides.{nat_tests}
 use Rattle.std.proofs.lemmas.List.Folds.{list_any-append}
-use Rattle.lr_keys.specs.KeySpace.{KeyEntry, Keys, OthersAreLive, entry_at, is_ahead, live_entry, live_entries}
+use Rattle.lr_keys.specs.KeySpace.{KeyEntry, Keys, ChangesOnly, OthersAreLive, entry_at, is_ahead, live_entry, live_entries}
 use Rattle.lr_keys.specs.Table.{with_key}
-use Rattle.lr_keys.proofs.TableLaws.{bytes_eq-same, with_key-other}
+use Rattle.lr_keys.proofs.TableLaws.{bytes_eq-same, bytes_eq-other, with_key-other}
 
 -- what is live stays live at the same moment
 pub live_entry-live_entry : (moment : ℕ) (entry : Option KeyEntry)
@@ -17,6 +19,21 @@ live_entry-live_entry moment (Some e) = by (is_ahead moment e.expiry) refl
         → live_entry moment (if b then Some e else None) ≡ (if b then Some e else None)
     by true ahead = ap (λ (b : Bool). if b then Some e else None) ahead
     by false gone = refl
+
+-- a key whose expiry lies ahead is all there
+pub live_entry-ahead : (moment : ℕ) (entry : KeyEntry)
+    → ForSome entry.expiry (λ expiry. moment < expiry)
+    → live_entry moment (Some entry) ≡ Some entry
+live_entry-ahead moment entry ahead = ap (λ (b : Bool). if b then Some entry else None) is
+  where
+    by : (expiry : Option ℕ) → ForSome expiry (λ e. moment < e) → is_ahead moment expiry ≡ true
+    by None ahead = refl
+    by (Some expiry) ahead =
+        let before : moment < expiry = ahead expiry refl in
+        grind (arith, before, nat_tests)
+
+    is : is_ahead moment entry.expiry ≡ true
+    is = by entry.expiry ahead
 
 -- a key that isn't in a list is none of its keys
 pub list_any-head : (q key : List ℕ) (list : List (List ℕ))
@@ -102,3 +119,24 @@ OthersAreLive-then_with_key old middle new list key entry now before entries = �
     ∙ with_key-other key entry (entry_at middle) q (list_any-head q key list apart)
     ∙ before q (list_any-tail q key list apart)
     ∙ ap (λ m. live_entry m (entry_at old q)) (sym now)
+
+-- what one key of equal tables has
+pub at_key : (f g : List ℕ → Option KeyEntry) → f ≡ g → (key : List ℕ) → f key ≡ g key
+at_key f g same key = ap (λ (t : List ℕ → Option KeyEntry). t key) same
+
+-- A step at some keys, once the moment has come: from the keys before both to those after both.
+module _ (old middle new : Keys) (moment : ℕ) (passed : middle.moment ≡ moment)
+    (left : entry_at middle ≡ live_entries moment (entry_at old))
+    (now : new.moment ≡ middle.moment) where
+  -- a key that stayed as it was holds what is live of it
+  pub live_stays : (q : List ℕ) → entry_at new q ≡ entry_at middle q
+      → entry_at new q ≡ live_entry new.moment (entry_at old q)
+  live_stays q same =
+      same ∙ at_key (entry_at middle) (live_entries moment (entry_at old)) left q
+      ∙ ap (λ m. live_entry m (entry_at old q)) (sym (now ∙ passed))
+
+  -- all other keys hold what is live of them
+  pub others_are_live : (key : List ℕ) → ChangesOnly key middle new
+      → OthersAreLive (key ∷ []) old new
+  others_are_live key others = λ q apart.
+      live_stays q (others q (bytes_eq-other key q (list_any-head q key [] apart)))

@@ -1,10 +1,11 @@
 -- What is left of the slots as the moment goes on.
-use Rattle.std.proofs.Common.{◌≡◌, ◌≤◌, ◌<◌, ℕ, Bool, true, false, cond, List, [], ◌∷◌, Option, Some, None, if◌then◌else◌, fold, refl, ap, sym, subst, ◌∙◌, arith}
+use Rattle.std.proofs.Common.{◌≡◌, ◌≤◌, ◌<◌, ℕ, Bool, true, false, cond, List, length, slice_get, slice_index, Option, Some, None, if◌then◌else◌, refl, ap, sym, subst, ◌∙◌, arith}
 use Rattle.std.proofs.Math.Nat.{le_trans}
 use Rattle.std.proofs.lemmas.Bool.Decides.{nat_tests}
-use Rattle.std.proofs.lemmas.Map.Entries.{option_filter}
+use Rattle.std.proofs.lemmas.Map.Entries.{place_from_lookup}
+use Rattle.std.proofs.lemmas.Option.{get_or_from_slice_get, slice_get_within}
+use Rattle.std.specs.Map.{lookup}
 use Rattle.std.specs.Option.{ForSome, option_map}
-use Rattle.std.specs.Map.{lookup, values_of}
 use Rattle.std.specs.Str.{bytes_eq}
 use Rattle.indexmap.specs.IndexMap.{get, spare, index_map_len}
 use Rattle.lr_limits.specs.Limits.{last_moment}
@@ -12,45 +13,10 @@ use Rattle.lr_keys.specs.declared.key_space.KeySpace.TheInside.{Inside}
 use Rattle.lr_keys.specs.declared.slot.Slot.{Slot}
 use Rattle.lr_keys.specs.declared.value_kind.ValueKind.{ValueKind}
 use Rattle.lr_keys.specs.KeySpace.{Keys, entry_at, is_ahead, live_entry, live_entries}
-use Rattle.lr_keys.specs.Slots.{IsKeySpace, IsRoomFor, live_slot, key_entry_of, keys_inside, sooner_of}
+use Rattle.lr_keys.specs.Slots.{AreExpiries, moment_of, IsKeySpace, IsRoomFor, live_slot, key_entry_of, keys_inside}
+use Rattle.lr_keys.specs.Table.{with_key}
 use Rattle.lr_keys.proofs.SlotLemmas.{entry_at-keys_inside}
-
-pub option_filter-live : (moment : ℕ) (o : Option Slot)
-    → option_filter (λ slot. is_ahead moment slot.expiry) o ≡ live_slot moment o
-option_filter-live moment None = refl
-option_filter-live moment (Some slot) = refl
-
--- a bound over slots is at most where it began, and at most each expiry
-sooner_le : (least : ℕ) (expiry : Option ℕ) → sooner_of least expiry ≤ least
-sooner_le least None = omega arith
-sooner_le least (Some e) = omega arith
-
-fold_le : (least : ℕ) (slots : List Slot)
-    → fold (λ l (s : Slot). sooner_of l s.expiry) least slots ≤ least
-fold_le least [] = omega arith
-fold_le least (s ∷ ss) = le_trans (fold_le (sooner_of least s.expiry) ss) (sooner_le least s.expiry)
-
-sooner_le_expiry : (least e : ℕ) (expiry : Option ℕ) → expiry ≡ Some e → sooner_of least expiry ≤ e
-sooner_le_expiry least e expiry at = subst (λ o. sooner_of least o ≤ e) (sym at) (omega arith)
-
-pub least_le : (least : ℕ) (test : List ℕ → Bool) (es : List (List ℕ × Slot)) (slot : Slot) (e : ℕ)
-    → lookup test es ≡ Some slot → slot.expiry ≡ Some e
-    → fold (λ l (s : Slot). sooner_of l s.expiry) least (values_of es) ≤ e
-least_le least test [] slot e found at = absurd (cc found)
-least_le least test (x ∷ xs) slot e found at =
-    by (test x.0) found (λ there. least_le (sooner_of least x.1.expiry) test xs slot e there at)
-  where
-    by : (b : Bool) → cond b (Some x.1) (lookup test xs) ≡ Some slot
-        → (lookup test xs ≡ Some slot
-        → fold (λ l (s : Slot). sooner_of l s.expiry) (sooner_of least x.1.expiry) (values_of xs)
-        ≤ e)
-        → fold (λ l (s : Slot). sooner_of l s.expiry) (sooner_of least x.1.expiry) (values_of xs)
-        ≤ e
-    by true here rest =
-        let one : x.1 ≡ slot = cc here in
-        le_trans (fold_le (sooner_of least x.1.expiry) (values_of xs))
-        (sooner_le_expiry least e x.1.expiry (ap (λ (s : Slot). s.expiry) one ∙ at))
-    by false there rest = rest there
+use Rattle.lr_keys.proofs.TableLaws.{same_bytes}
 
 -- what is left of a slot is shown as what is left of the entry
 key_entry_of-live_slot : (moment : ℕ) (o : Option Slot)
@@ -94,6 +60,50 @@ left moment (Some x) slot e = by (is_ahead moment x.expiry) refl e
         (same, ap (λ (s : Slot). is_ahead moment s.expiry) (sym one) ∙ ahead)
     by false ahead none = absurd (cc none)
 
+-- what a slot of a place that is due is at the moment: gone
+pub is_gone : (es : List (List ℕ × Slot)) (ds : List ℕ) (place moment : ℕ) (key : List ℕ) (u : Slot)
+    → AreExpiries es ds → slice_get es place ≡ Some (key, u) → slice_index ds place ≤ moment
+    → moment ≤ last_moment → is_ahead moment u.expiry ≡ false
+is_gone es ds place moment key u h at due early =
+    let within = slice_get_within es place (key, u) at in
+    let entry = get_or_from_slice_get es place (key, u) (key, u) at in
+    let is : slice_index ds place ≡ moment_of u.expiry =
+    h.each place (key, u) within ∙ ap (λ (e : List ℕ × Slot). moment_of e.1.expiry) entry in
+    by u.expiry (subst (λ n. n ≤ moment) is due)
+  where
+    by : (expiry : Option ℕ) → moment_of expiry ≤ moment → is_ahead moment expiry ≡ false
+    by None le = absurd (omega (arith, le, early))
+    by (Some e) le = grind (arith, nat_tests, le)
+
+-- what is gone can be removed
+pub live_slot-removed : (moment : ℕ) (f g : List ℕ → Option Slot) (key : List ℕ) (u : Slot)
+    → f key ≡ Some u → is_ahead moment u.expiry ≡ false
+    → ((q : List ℕ) → g q ≡ with_key key None f q) → (q : List ℕ)
+    → live_slot moment (g q) ≡ live_slot moment (f q)
+live_slot-removed moment f g key u at gone sets q =
+    ap (live_slot moment) (sets q) ∙ by (bytes_eq key q) refl
+  where
+    none : live_slot moment (f key) ≡ None
+    none = ap (live_slot moment) at ∙ ap (λ (b : Bool). if b then Some u else None) gone
+
+    by : (b : Bool) → bytes_eq key q ≡ b
+        → live_slot moment (cond b None (f q)) ≡ live_slot moment (f q)
+    by true e = sym (ap (λ k. live_slot moment (f k)) (sym (same_bytes key q e)) ∙ none)
+    by false e = refl
+
+-- where all places are later, nothing is gone
+pub live_slot-all : (es : List (List ℕ × Slot)) (ds : List ℕ) (moment : ℕ) → AreExpiries es ds
+    → ((place : ℕ) → place < length ds → moment < slice_index ds place) → (q : List ℕ)
+    → lookup (bytes_eq q) es ≡ live_slot moment (lookup (bytes_eq q) es)
+live_slot-all es ds moment h later q = live_slot-later moment (lookup (bytes_eq q) es)
+    (λ slot at e ahead.
+    let found = place_from_lookup (bytes_eq q) es slot at in
+    let within = slice_get_within es found.0 (found.1, slot) found.2 in
+    let entry = get_or_from_slice_get es found.0 (found.1, slot) (found.1, slot) found.2 in
+    let is : slice_index ds found.0 ≡ e = h.each found.0 (found.1, slot) within
+    ∙ ap (λ (x : List ℕ × Slot). moment_of x.1.expiry) entry ∙ ap moment_of ahead in
+    subst (λ n. moment < n) is (later found.0 (omega (arith, within, h.room))))
+
 IsRoomFor-live : (moment : ℕ) (o : Option Slot) (kind : ValueKind) → IsRoomFor o kind
     → IsRoomFor (live_slot moment o) kind
 IsRoomFor-live moment None kind room = tt
@@ -116,22 +126,21 @@ module _ (s t : Inside) where
   -- what is kept stays so where what is gone is removed
   pub IsKeySpace-live : IsKeySpace s → t.moment ≤ last_moment → t.spares ≡ s.spares
       → ((q : List ℕ) → get bytes_eq t.slots q ≡ live_slot t.moment (get bytes_eq s.slots q))
-      → ((q : List ℕ) → ForSome (get bytes_eq t.slots q) (λ slot.
-      ForSome slot.expiry (λ e. t.least_expiry ≤ e))) → spare s.slots ≤ spare t.slots → IsKeySpace t
-  IsKeySpace-live kept moment spares slots bound room = record {
+      → AreExpiries t.slots.entries t.expiries → index_map_len t.slots ≤ index_map_len s.slots
+      → length t.expiries ≡ length s.expiries → spare s.slots ≤ spare t.slots → IsKeySpace t
+  IsKeySpace-live kept moment spares slots expiries fewer places room = record {
     moment = moment;
     slots = λ key slot at.
         let was = left t.moment (get bytes_eq s.slots key) slot (sym (slots key) ∙ at) in
-        let live = (kept.slots key slot was.0).live in
+        let live = kept.slots key slot was.0 in
         record {
-          live = record {
-            ahead = left_ahead t.moment slot.expiry was.1;
-            near = live.near;
-            some_fields = live.some_fields;
-            few_fields = live.few_fields;
-          };
-          bound = bound key slot at;
+          ahead = left_ahead t.moment slot.expiry was.1;
+          near = live.near;
+          some_fields = live.some_fields;
+          few_fields = live.few_fields;
         };
+    expiries = expiries;
+    places = omega (arith, ap (λ m. index_map_len m) spares, fewer, places, kept.places);
     room = le_trans (subst (λ (n : ℕ). n ≤ spare s.slots)
         (ap (λ m. index_map_len m) (sym spares)) kept.room) room;
     ready = λ key p at.
@@ -143,11 +152,3 @@ module _ (s t : Inside) where
               (IsRoomFor-live t.moment (get bytes_eq s.slots key) p.kind r.room);
         };
   }
-
--- before the bound nothing is gone
-pub live_before_bound : (s : Inside) (moment : ℕ) → IsKeySpace s → moment < s.least_expiry
-    → (q : List ℕ) → get bytes_eq s.slots q ≡ live_slot moment (get bytes_eq s.slots q)
-live_before_bound s moment kept before q =
-    live_slot-later moment (get bytes_eq s.slots q)
-    (λ slot at e ahead. let bound : s.least_expiry ≤ e = (kept.slots q slot at).bound e ahead in
-    omega arith)

@@ -1,12 +1,12 @@
-use Rattle.std.proofs.Common.{◌≡◌, ℕ, Bool, true, false, cond, List, [], ◌∷◌, Option, Some, None, IsSome, IsTrue, Result, Ok, Err, IsOk, OnErr, is_ok, ◌&&◌, true≢false, ℤ, refl, map, is_some, length, nat_lt, if◌then◌else◌, ◌≤◌, ◌<◌, ◌+◌, arith, ap, sym, subst, ◌∙◌}
+use Rattle.std.proofs.Common.{◌≡◌, ℕ, Bool, true, false, cond, List, [], ◌∷◌, ◌++◌, Option, Some, None, IsSome, IsTrue, Result, Ok, Err, OnOk, OnErr, ◌&&◌, true≢false, ℤ, refl, map, is_some, length, nat_lt, if◌then◌else◌, ◌≤◌, ◌<◌, ◌+◌, arith, ap, sym, subst, ◌∙◌}
 use Rattle.std.proofs.Math.Nat.{le_trans}
 use Rattle.std.specs.Borrow.{MutBor}
 use Rattle.std.specs.Option.{ForSome, option_map, option_copied_mut}
 use Rattle.std.specs.Str.{bytes_eq}
 use Rattle.std.specs.Map.{lookup, set_value}
 use Rattle.indexmap.specs.IndexMap.{IndexMap, get, spare, index_map_len, WritesThrough}
-use Rattle.lr_keys.specs.KeySpace.{Content, Fields, Number, Keys, KeyEntry, content_with_field, content_without_field, entry_with_value, entry_without_field, is_empty_hash, is_plan_for, is_same_kind, is_there, field_at, counter_at, field_of, hash_in, number_after_increment, field_after_increment, AreLive, IsLive, entry_at, plan_at}
-use Rattle.lr_keys.specs.Slots.{KeepsSlot, new_slot, key_entry_of, content_of, key_entries_of, plans_of, plan_of, HasRoom, IsSpareFor, keys_inside, IsReadySpare, IsRoomFor, IsLiveSlot, IsKeySpace}
+use Rattle.lr_keys.specs.KeySpace.{Content, Fields, Number, Keys, KeyEntry, content_with_field, content_without_field, entry_without_field, is_empty_hash, is_plan_for, is_same_kind, is_there, field_at, counter_at, field_of, hash_in, number_after_increment, field_after_increment, AreLive, IsLive, entry_at, plan_at}
+use Rattle.lr_keys.specs.Slots.{KeepsSlot, new_slot, key_entry_of, content_of, key_entries_of, plans_of, plan_of, HasRoom, IsSpareFor, keys_inside, IsReadySpare, IsRoomFor, IsLiveSlot, AreExpiries, IsKeySpace}
 use Rattle.lr_limits.specs.Limits.{last_moment, longest_lease, member_limit}
 use Rattle.lr_keys.specs.declared.value_kind.ValueKind.{ValueKind}
 use Rattle.lr_keys.specs.declared.value_kind.ValueKind.TheVariants.{Hash as HashKind, List as ListKind, Zset, Counter as CounterKind}
@@ -18,6 +18,7 @@ use Rattle.lr_keys.specs.declared.slot.Slot.{Slot}
 use Rattle.lr_keys.specs.declared.slot.Spare.{Spare}
 use Rattle.lr_keys.specs.declared.slot.Stored.{Stored}
 use Rattle.lr_keys.specs.FieldMap.{field_value, with_field, without_field, Pairs}
+use Rattle.lr_keys.proofs.ExpiryLemmas.{AreExpiries-push, AreExpiries-shown, AreExpiries-written, length_shown}
 use Rattle.lr_keys.proofs.FieldMapLemmas.{length-without_field, length-with_field_some, length-with_field_there, length-with_field_le}
 use Rattle.lr_keys.specs.declared.key_space.KeySpace.TheInside.{Inside}
 
@@ -68,7 +69,7 @@ AreLive-keys_inside s kept = record {
   live = λ key e at.
       let found = option_map-some key_entry_of (get bytes_eq s.slots key) e
       (sym (entry_at-keys_inside s key) ∙ at) in
-      subst (IsLive s.moment) found.2 (kept.slots key found.0 found.1).live;
+      subst (IsLive s.moment) found.2 (kept.slots key found.0 found.1);
 }
 
 -- where no key is kept, none is shown
@@ -119,20 +120,19 @@ module _ (s t : Inside) where
 
   -- what is kept stays so after a change of the slots at one key
   pub IsKeySpace-set : (key : List ℕ) (w : Option Slot) → IsKeySpace s → t.moment ≡ s.moment
-      → t.least_expiry ≤ s.least_expiry → t.spares ≡ s.spares
-      → WritesKey (get bytes_eq s.slots) (get bytes_eq t.slots) key w
-      → spare s.slots ≤ spare t.slots
-      → ForSome w (IsLiveSlot t.moment t.least_expiry)
+      → t.spares ≡ s.spares → WritesKey (get bytes_eq s.slots) (get bytes_eq t.slots) key w
+      → AreExpiries t.slots.entries t.expiries → index_map_len t.slots ≤ index_map_len s.slots
+      → length t.expiries ≡ length s.expiries → spare s.slots ≤ spare t.slots
+      → ForSome w (IsLiveSlot t.moment)
       → ((kind : ValueKind) → IsRoomFor (get bytes_eq s.slots key) kind → IsRoomFor w kind)
       → IsKeySpace t
-  IsKeySpace-set key w kept moment least spares sets room sound room_for = record {
+  IsKeySpace-set key w kept moment spares sets expiries fewer places room sound room_for = record {
     moment = subst (λ m. m ≤ last_moment) (sym moment) kept.moment;
-    slots = at_each-with_key (λ q o. ForSome o (IsLiveSlot t.moment t.least_expiry))
-        (get bytes_eq s.slots) (get bytes_eq t.slots) key w sets sound (λ q slot at. record {
-          live = subst (λ (m : ℕ). IsLive m (key_entry_of slot)) (sym moment)
-              (kept.slots q slot at).live;
-          bound = λ expiry e. le_trans least ((kept.slots q slot at).bound expiry e);
-        });
+    slots = at_each-with_key (λ q o. ForSome o (IsLiveSlot t.moment))
+        (get bytes_eq s.slots) (get bytes_eq t.slots) key w sets sound (λ q slot at.
+        subst (λ (m : ℕ). IsLiveSlot m slot) (sym moment) (kept.slots q slot at));
+    expiries = expiries;
+    places = omega (arith, ap (λ m. index_map_len m) spares, fewer, places, kept.places);
     room = subst (λ (m : IndexMap (List ℕ) Spare _). index_map_len m ≤ spare t.slots) (sym spares)
         (le_trans kept.room room);
     ready = subst (λ (m : IndexMap (List ℕ) Spare _). (q : List ℕ)
@@ -143,6 +143,32 @@ module _ (s t : Inside) where
         record { empty = r.empty; spare = r.spare; room = room_for p.kind r.room })
         kept.ready);
   }
+
+-- a write through what `get_mut` lends leaves the expiry
+pub AreExpiries-through : (s t : Inside) (key : List ℕ) (u w : Slot) → IsKeySpace s
+    → t.expiries ≡ s.expiries → Some u ≡ get bytes_eq s.slots key
+    → t.slots.entries ≡ set_value (bytes_eq key) s.slots.entries w → w.expiry ≡ u.expiry
+    → AreExpiries t.slots.entries t.expiries
+AreExpiries-through s t key u w kept expiries found writes same =
+    subst (AreExpiries t.slots.entries) (sym expiries)
+    (subst (λ es. AreExpiries es s.expiries) (sym writes)
+    (AreExpiries-written (bytes_eq key) s.slots.entries s.expiries u w found same kept.expiries))
+
+-- a new slot is last, and has no expiry
+pub AreExpiries-pushed : (es fs : List (List ℕ × Slot)) (ds : List ℕ) (key : List ℕ)
+    (value : Stored) → AreExpiries es ds → fs ≡ es ++ (key, new_slot value) ∷ []
+    → length es < length ds → AreExpiries fs ds
+AreExpiries-pushed es fs ds key value h pushed room =
+    subst (λ xs. AreExpiries xs ds) (sym pushed) (AreExpiries-push es ds key value h room)
+
+-- where no key is shown, no slot is
+pub slot_absent : (s : Inside) (keys : Keys) (key : List ℕ) → keys_inside s ≡ keys
+    → entry_at keys key ≡ None → get bytes_eq s.slots key ≡ None
+slot_absent s keys key view absent = by (get bytes_eq s.slots key) refl
+  where
+    by : (o : Option Slot) → o ≡ get bytes_eq s.slots key → o ≡ None
+    by None read = refl
+    by (Some u) read = absurd (cc (absent, entry_at-read s keys key (Some u) view read))
 
 -- a key is shown exactly where a slot is
 pub is_some-entry_at : (keys : Keys) (key : List ℕ) (o : Option Slot)
@@ -167,17 +193,14 @@ IsRoomFor-some o u w found keeps Zset room = tt
 IsRoomFor-some o u w found keeps CounterKind room = tt
 
 -- a slot with an expiry ahead
-pub IsLiveSlot-expiring : (moment least next expiry : ℕ) (slot : Slot)
-    → IsLiveSlot moment least slot → moment < expiry → expiry ≤ last_moment + longest_lease
-    → next ≤ expiry → IsLiveSlot moment next (record slot { expiry = Some expiry })
-IsLiveSlot-expiring moment least next expiry slot sound ahead near bound = record {
-  live = record {
-    ahead = λ e at. let same : expiry ≡ e = cc in omega arith;
-    near = λ e at. let same : expiry ≡ e = cc in omega arith;
-    some_fields = sound.live.some_fields;
-    few_fields = sound.live.few_fields;
-  };
-  bound = λ e at. let same : expiry ≡ e = cc in omega arith;
+pub IsLiveSlot-expiring : (moment expiry : ℕ) (slot : Slot) → IsLiveSlot moment slot
+    → moment < expiry → expiry ≤ last_moment + longest_lease
+    → IsLiveSlot moment (record slot { expiry = Some expiry })
+IsLiveSlot-expiring moment expiry slot sound ahead near = record {
+  ahead = λ e at. let same : expiry ≡ e = cc in omega arith;
+  near = λ e at. let same : expiry ≡ e = cc in omega arith;
+  some_fields = sound.some_fields;
+  few_fields = sound.few_fields;
 }
 
 -- a fact of the value in a `Some`
@@ -197,20 +220,23 @@ module _ (s t : Inside) (old : Keys) (key : List ℕ) (o w : Option Slot) where
 
 module _ (s t : Inside) (key : List ℕ) (w : Slot) (spent : Bool) where
   -- what is kept stays so once a key has a new member, and what was prepared for that is spent
-  pub IsKeySpace-grown : IsKeySpace s → t.moment ≡ s.moment → t.least_expiry ≡ s.least_expiry
+  pub IsKeySpace-grown : IsKeySpace s → t.moment ≡ s.moment
       → WritesKey (get bytes_eq s.slots) (get bytes_eq t.slots) key (Some w)
       → ((q : List ℕ) → get bytes_eq t.spares q
       ≡ without_key_if spent key (get bytes_eq s.spares) q)
-      → index_map_len t.spares ≤ spare t.slots → IsLiveSlot t.moment t.least_expiry w
+      → AreExpiries t.slots.entries t.expiries
+      → index_map_len t.slots + index_map_len t.spares ≤ length t.expiries
+      → index_map_len t.spares ≤ spare t.slots → IsLiveSlot t.moment w
       → (spent ≡ false → (kind : ValueKind) → IsRoomFor (get bytes_eq s.slots key) kind
       → IsRoomFor (Some w) kind) → IsKeySpace t
-  IsKeySpace-grown kept moment least sets spends room sound room_for = record {
+  IsKeySpace-grown kept moment sets spends expiries places room sound room_for = record {
     moment = subst (λ m. m ≤ last_moment) (sym moment) kept.moment;
-    slots = at_each-with_key (λ q o. ForSome o (IsLiveSlot t.moment t.least_expiry))
+    slots = at_each-with_key (λ q o. ForSome o (IsLiveSlot t.moment))
         (get bytes_eq s.slots) (get bytes_eq t.slots) key (Some w) sets
-        (λ x at. subst (IsLiveSlot t.moment t.least_expiry) (cc at) sound)
-        (λ q slot at. subst (λ (m : ℕ). IsLiveSlot m t.least_expiry slot) (sym moment)
-        (subst (λ (m : ℕ). IsLiveSlot s.moment m slot) (sym least) (kept.slots q slot at)));
+        (λ x at. subst (IsLiveSlot t.moment) (cc at) sound)
+        (λ q slot at. subst (λ (m : ℕ). IsLiveSlot m slot) (sym moment) (kept.slots q slot at));
+    expiries = expiries;
+    places = places;
     room = room;
     ready = at_each-with_key (λ q o. ForSome (get bytes_eq t.spares q) (IsReadySpare o))
         (get bytes_eq s.slots) (get bytes_eq t.slots) key (Some w) sets (here spent spends room_for)
@@ -259,22 +285,38 @@ few_with_field field number (Fields before) pairs few e =
     subst (λ (ps : Pairs). length ps ≤ member_limit) same (few before refl)
 few_with_field field number (Number n) pairs few e = absurd (cc e)
 
-pub IsLiveSlot-with_field : (moment least : ℕ) (u : Slot) (x : Stored) (field : List ℕ) (number : ℤ)
-    → IsLiveSlot moment least u
+pub IsLiveSlot-with_field : (moment : ℕ) (u : Slot) (x : Stored) (field : List ℕ) (number : ℤ)
+    → IsLiveSlot moment u
     → content_of x ≡ content_with_field field number (content_of u.value)
     → ((before : Pairs) → content_of u.value ≡ Fields before
     → length (with_field field number before) ≤ member_limit)
-    → IsLiveSlot moment least (record u { value = x })
-IsLiveSlot-with_field moment least u x field number sound same few = record {
-  live = record {
-    ahead = sound.live.ahead;
-    near = sound.live.near;
-    some_fields = λ pairs e. some_with_field field number (content_of u.value) pairs (sym same ∙ e);
-    few_fields = λ pairs e. few_with_field field number (content_of u.value) pairs few
-        (sym same ∙ e);
-  };
-  bound = sound.bound;
+    → IsLiveSlot moment (record u { value = x })
+IsLiveSlot-with_field moment u x field number sound same few = record {
+  ahead = sound.ahead;
+  near = sound.near;
+  some_fields = λ pairs e. some_with_field field number (content_of u.value) pairs (sym same ∙ e);
+  few_fields = λ pairs e. few_with_field field number (content_of u.value) pairs few (sym same ∙ e);
 }
+
+-- a slot that is shown as before is as sound
+pub IsLiveSlot-same : (moment : ℕ) (u : Slot) (x : Stored) → content_of x ≡ content_of u.value
+    → IsLiveSlot moment u → IsLiveSlot moment (record u { value = x })
+IsLiveSlot-same moment u x same sound =
+    subst (λ (v : Content). IsLive moment (record { value = v; expiry = u.expiry }))
+    (sym same) sound
+
+-- a new field, or none where there was no memory for it
+pub IsLiveSlot-added : {T E : Type 0} (r : Result T E) (moment : ℕ) (u : Slot) (x : Stored)
+    (field : List ℕ) (number : ℤ) → IsLiveSlot moment u
+    → OnOk r (content_of x ≡ content_with_field field number (content_of u.value))
+    → OnErr r (content_of x ≡ content_of u.value)
+    → ((before : Pairs) → content_of u.value ≡ Fields before
+    → length (with_field field number before) ≤ member_limit)
+    → IsLiveSlot moment (record u { value = x })
+IsLiveSlot-added (Ok v) moment u x field number sound wrote same few =
+    IsLiveSlot-with_field moment u x field number sound wrote few
+IsLiveSlot-added (Err e) moment u x field number sound wrote same few =
+    IsLiveSlot-same moment u x same sound
 
 -- what `get_mut` lends is what the table has
 pub IsSome-lent : {X : Type 0} (r : Option (MutBor X)) (o : Option X) → option_copied_mut r ≡ o
@@ -317,15 +359,6 @@ plan_at-spent s t old key true view spends = plan_at-set s t old key None view s
 plan_at-spent s t old key false view spends =
     λ i q. (plan_at-keys_inside t q ∙ ap (option_map plan_of) (spends q)
     ∙ sym (plan_at-keys_inside s q) ∙ ap (λ k. plan_at k q) view) i
-
--- a slot that is shown as before is as sound
-pub IsLiveSlot-same : (moment least : ℕ) (u : Slot) (x : Stored) → content_of x ≡ content_of u.value
-    → IsLiveSlot moment least u → IsLiveSlot moment least (record u { value = x })
-IsLiveSlot-same moment least u x same sound = record {
-  live = subst (λ (v : Content). IsLive moment (record { value = v; expiry = u.expiry }))
-      (sym same) sound.live;
-  bound = sound.bound;
-}
 
 -- a slot that is shown as before leaves what is shown
 pub key_entries_of-set_value : (test : List ℕ → Bool) (es : List (List ℕ × Slot)) (u w : Slot)
@@ -394,37 +427,38 @@ HasRoom-planned s old key member u kept view found for =
     subst (IsRoomFor (get bytes_eq s.slots key)) (sym plan.2) room in
     subst (λ (o : Option Slot). IsRoomFor o HashKind) (sym found) at_kind
 
--- a fact beside a `Result`
-pub OnErr-always : {T E P : Type 0} (r : Result T E) → P → OnErr r P
-OnErr-always (Ok x) p = tt
-OnErr-always (Err e) p = p
+-- what follows from a fact beside a `Result`
+pub OnOk-then : {T E P Q : Type 0} (r : Result T E) → (P → Q) → OnOk r P → OnOk r Q
+OnOk-then (Ok x) f p = f p
+OnOk-then (Err e) f p = tt
 
--- what succeeds with room had none, where it failed
-pub false_from_err : {T E : Type 0} (b : Bool) (r : Result T E) (e : E) → (IsTrue b → IsOk r)
-    → r ≡ Err e → b ≡ false
-false_from_err true r e succeeds is = absurd (true≢false (sym (succeeds refl) ∙ ap is_ok is))
-false_from_err false r e succeeds is = refl
+pub OnErr-then : {T E P Q : Type 0} (r : Result T E) → (P → Q) → OnErr r P → OnErr r Q
+OnErr-then (Ok x) f p = tt
+OnErr-then (Err e) f p = f p
 
--- more room for keys leaves what is kept
+-- more room and more places for keys leave what is kept
 pub IsKeySpace-roomier : (s t : Inside) → IsKeySpace s → t.moment ≡ s.moment
-    → t.least_expiry ≡ s.least_expiry → t.spares ≡ s.spares → t.slots.entries ≡ s.slots.entries
+    → t.spares ≡ s.spares → t.slots.entries ≡ s.slots.entries
+    → AreExpiries t.slots.entries t.expiries → length s.expiries ≤ length t.expiries
     → spare s.slots ≤ spare t.slots → IsKeySpace t
-IsKeySpace-roomier s t kept moment least spares entries room = record {
+IsKeySpace-roomier s t kept moment spares entries expiries places room = record {
   moment = subst (λ m. m ≤ last_moment) (sym moment) kept.moment;
-  slots = λ key slot at. subst (λ (m : ℕ). IsLiveSlot m t.least_expiry slot) (sym moment)
-      (subst (λ (m : ℕ). IsLiveSlot s.moment m slot) (sym least)
-      (kept.slots key slot (ap (lookup (bytes_eq key)) (sym entries) ∙ at)));
+  slots = λ key slot at. subst (λ (m : ℕ). IsLiveSlot m slot) (sym moment)
+      (kept.slots key slot (ap (lookup (bytes_eq key)) (sym entries) ∙ at));
+  expiries = expiries;
+  places = omega (
+    arith,
+    ap (λ m. index_map_len m) spares,
+    ap length entries,
+    places,
+    kept.places,
+  );
   room = le_trans (subst (λ (n : ℕ). n ≤ spare s.slots)
       (ap (λ m. index_map_len m) (sym spares)) kept.room) room;
   ready = λ key p at. subst (λ (o : Option Slot). IsReadySpare o p)
       (ap (lookup (bytes_eq key)) (sym entries))
       (kept.ready key p (ap (λ m. get bytes_eq m key) (sym spares) ∙ at));
 }
-
--- a new slot that is live is sound
-pub IsLiveSlot-new : (moment least : ℕ) (value : Stored)
-    → IsLive moment (key_entry_of (new_slot value)) → IsLiveSlot moment least (new_slot value)
-IsLiveSlot-new moment least value live = record { live = live; bound = λ e at. absurd (cc at) }
 
 -- a new hash with one field, and a new counter, are live
 pub IsLive-one_field : (moment : ℕ) (pairs : Pairs) (p : List ℕ × ℤ) → pairs ≡ p ∷ []
@@ -447,17 +481,14 @@ IsLive-counter moment number = record {
   few_fields = λ qs at. absurd (cc at);
 }
 
-pub IsLiveSlot-counter : (moment least : ℕ) (u : Slot) (x : Stored) (number : ℤ)
-    → content_of x ≡ Number number → IsLiveSlot moment least u
-    → IsLiveSlot moment least (record u { value = x })
-IsLiveSlot-counter moment least u x number is sound = record {
-  live = record {
-    ahead = sound.live.ahead;
-    near = sound.live.near;
-    some_fields = λ qs at. absurd (cc (is, at));
-    few_fields = λ qs at. absurd (cc (is, at));
-  };
-  bound = sound.bound;
+pub IsLiveSlot-counter : (moment : ℕ) (u : Slot) (x : Stored) (number : ℤ)
+    → content_of x ≡ Number number → IsLiveSlot moment u
+    → IsLiveSlot moment (record u { value = x })
+IsLiveSlot-counter moment u x number is sound = record {
+  ahead = sound.ahead;
+  near = sound.near;
+  some_fields = λ qs at. absurd (cc (is, at));
+  few_fields = λ qs at. absurd (cc (is, at));
 }
 
 -- memory that was taken for a key, as the spares have it
@@ -474,10 +505,10 @@ pub IsSome-planned : (s : Inside) (old : Keys) (key member : List ℕ) (kind : V
 IsSome-planned s old key member kind view for =
     ap is_some (planned_spare s old key member kind view for).1
 
--- the memory for a hash: no field, and room for one
+-- the memory for a hash: a table with no field, and room for two
 pub IsSpare-planned : (s : Inside) (old : Keys) (key member : List ℕ) (p : Spare) → IsKeySpace s
     → keys_inside s ≡ old → is_plan_for HashKind member (plan_at old key) ≡ true
-    → get bytes_eq s.spares key ≡ Some p → (p.hash.pairs ≡ []) × (0 < p.hash.room)
+    → get bytes_eq s.spares key ≡ Some p → (p.hash.pairs ≡ []) × (2 ≤ p.hash.room)
 IsSpare-planned s old key member p kept view for at =
     let plan = planned_spare s old key member HashKind view for in
     let same : plan.0 ≡ p = cc (plan.1, at) in
@@ -521,21 +552,20 @@ few_without_field field (Fields before) pairs few e =
     (le_trans (length-without_field field before) (few before refl))
 few_without_field field (Number n) pairs few e = absurd (cc e)
 
-pub IsLiveSlot-without_field : (moment least : ℕ) (u : Slot) (x : Stored) (field : List ℕ)
-    (emptied : Bool) → IsLiveSlot moment least u → emptied ≡ is_empty_hash (content_of x)
-    → content_of x ≡ content_without_field field (content_of u.value)
-    → ForSome (if emptied then None else Some (record u { value = x })) (IsLiveSlot moment least)
-IsLiveSlot-without_field moment least u x field true sound empty same = λ w at. absurd (cc at)
-IsLiveSlot-without_field moment least u x field false sound empty same =
-    ForSome-some (IsLiveSlot moment least) (record u { value = x }) (record {
-      live = record {
-        ahead = sound.live.ahead;
-        near = sound.live.near;
-        some_fields = λ pairs e. some_without_field (content_of x) pairs (sym empty) e;
-        few_fields = λ pairs e. few_without_field field (content_of u.value) pairs
-            sound.live.few_fields (sym same ∙ e);
-      };
-      bound = sound.bound;
+pub IsLiveSlot-without_field : (moment : ℕ) (u : Slot) (x : Stored) (field : List ℕ)
+    (emptied : Bool) → IsLiveSlot moment u
+    → emptied ≡ is_empty_hash (content_without_field field (content_of u.value))
+    → (emptied ≡ false → content_of x ≡ content_without_field field (content_of u.value))
+    → ForSome (if emptied then None else Some (record u { value = x })) (IsLiveSlot moment)
+IsLiveSlot-without_field moment u x field true sound empty same = λ w at. absurd (cc at)
+IsLiveSlot-without_field moment u x field false sound empty same =
+    ForSome-some (IsLiveSlot moment) (record u { value = x }) (record {
+      ahead = sound.ahead;
+      near = sound.near;
+      some_fields = λ pairs e.
+          some_without_field (content_of x) pairs (ap is_empty_hash (same refl) ∙ sym empty) e;
+      few_fields = λ pairs e. few_without_field field (content_of u.value) pairs
+          sound.few_fields (sym (same refl) ∙ e);
     })
 
 pub IsRoomFor-without_field : (o : Option Slot) (u w : Slot) (emptied : Bool) → Some u ≡ o
@@ -546,18 +576,21 @@ IsRoomFor-without_field o u w false found keeps kind room =
     IsRoomFor-some o u w found keeps kind room
 
 pub key_entry_of-without_field : (u : Slot) (x : Stored) (field : List ℕ) (emptied : Bool)
-    → emptied ≡ is_empty_hash (content_of x)
-    → content_of x ≡ content_without_field field (content_of u.value)
+    → emptied ≡ is_empty_hash (content_without_field field (content_of u.value))
+    → (emptied ≡ false → content_of x ≡ content_without_field field (content_of u.value))
     → option_map key_entry_of (if emptied then None else Some (record u { value = x }))
     ≡ entry_without_field field (Some (key_entry_of u))
-key_entry_of-without_field u x field emptied empty same =
-    by emptied ∙ ap (λ (b : Bool). if b then None else Some (key_entry_of (record u { value = x })))
-    empty ∙ ap (λ v. entry_with_value v u.expiry) same
-  where
-    by : (b : Bool) → option_map key_entry_of (if b then None else Some (record u { value = x }))
-        ≡ (if b then None else Some (key_entry_of (record u { value = x })))
-    by true = refl
-    by false = refl
+key_entry_of-without_field u x field true empty same =
+    ap (λ (b : Bool). if b then None else Some (record {
+      value = content_without_field field (content_of u.value);
+      expiry = u.expiry;
+    })) empty
+key_entry_of-without_field u x field false empty same =
+    ap (λ v. Some (record { value = v; expiry = u.expiry })) (same refl)
+    ∙ ap (λ (b : Bool). if b then None else Some (record {
+      value = content_without_field field (content_of u.value);
+      expiry = u.expiry;
+    })) empty
 
 -- a hash with as many fields as a key may have takes no new one
 pub field_after_increment-full : (field : List ℕ) (by : ℤ) (h : Result Pairs KeyFault)
@@ -578,19 +611,28 @@ pub entry_at-same : (s t : Inside) (keys : Keys) → keys_inside s ≡ keys
 unfolding entry_at
 entry_at-same s t keys view same = (λ i key. lookup (bytes_eq key) (same i)) ∙ ap entry_at view
 
+-- what was written through `get_mut` keeps the slots, where it is shown as before
+pub KeepsSlot-written : {S : Type 0} (m n : IndexMap (List ℕ) Slot S) (key : List ℕ) (u w : Slot)
+    → Some u ≡ get bytes_eq m key → WritesThrough bytes_eq (bytes_eq key) m w n
+    → key_entry_of w ≡ key_entry_of u → (HasRoom u.value → HasRoom w.value) → (q : List ℕ)
+    → KeepsSlot (get bytes_eq m q) (get bytes_eq n q)
+KeepsSlot-written m n key u w found writes same keeps =
+    at_each-with_key (λ q o. KeepsSlot (get bytes_eq m q) o) (get bytes_eq m) (get bytes_eq n) key
+    (Some w) (sets_written m n key u w found writes)
+    (subst (λ (o : Option Slot). KeepsSlot o (Some w)) found (same, keeps))
+    (λ q. as_it_was (get bytes_eq m q))
+  where
+    as_it_was : (o : Option Slot) → KeepsSlot o o
+    as_it_was None = tt
+    as_it_was (Some x) = (refl, λ room. room)
+
 -- a slot that is kept is as sound, and has what room it had
-IsLiveSlot-KeepsSlot : (moment least : ℕ) (o p : Option Slot) → KeepsSlot o p
-    → ForSome o (IsLiveSlot moment least) → ForSome p (IsLiveSlot moment least)
-IsLiveSlot-KeepsSlot moment least o None kept sound = λ w at. absurd (cc at)
-IsLiveSlot-KeepsSlot moment least None (Some w) kept sound = absurd kept
-IsLiveSlot-KeepsSlot moment least (Some u) (Some w) kept sound =
-    ForSome-some (IsLiveSlot moment least) w (
-    let before = sound u refl in
-    record {
-      live = subst (IsLive moment) (sym kept.0) before.live;
-      bound = subst (λ (x : Option ℕ). ForSome x (λ expiry. least ≤ expiry))
-          (sym (ap (λ (e : KeyEntry). e.expiry) kept.0)) before.bound;
-    })
+IsLiveSlot-KeepsSlot : (moment : ℕ) (o p : Option Slot) → KeepsSlot o p
+    → ForSome o (IsLiveSlot moment) → ForSome p (IsLiveSlot moment)
+IsLiveSlot-KeepsSlot moment o None kept sound = λ w at. absurd (cc at)
+IsLiveSlot-KeepsSlot moment None (Some w) kept sound = absurd kept
+IsLiveSlot-KeepsSlot moment (Some u) (Some w) kept sound =
+    ForSome-some (IsLiveSlot moment) w (subst (IsLive moment) (sym kept.0) (sound u refl))
 
 IsRoomFor-KeepsSlot : (o p : Option Slot) (kind : ValueKind) → KeepsSlot o p → IsRoomFor o kind
     → IsRoomFor p kind
@@ -601,15 +643,24 @@ IsRoomFor-KeepsSlot (Some u) (Some w) kind kept room =
 
 -- what is kept stays so where each slot is, and the spares are as before
 pub IsKeySpace-KeepsSlot : (s t : Inside) → IsKeySpace s → t.moment ≡ s.moment
-    → t.least_expiry ≡ s.least_expiry → t.spares.entries ≡ s.spares.entries
+    → t.expiries ≡ s.expiries → t.spares.entries ≡ s.spares.entries
+    → key_entries_of t.slots.entries ≡ key_entries_of s.slots.entries
     → ((q : List ℕ) → KeepsSlot (get bytes_eq s.slots q) (get bytes_eq t.slots q))
     → spare s.slots ≤ spare t.slots → IsKeySpace t
-IsKeySpace-KeepsSlot s t kept moment least spares slots room = record {
+IsKeySpace-KeepsSlot s t kept moment expiries spares shown slots room = record {
   moment = subst (λ m. m ≤ last_moment) (sym moment) kept.moment;
-  slots = λ key slot at. subst (λ (m : ℕ). IsLiveSlot m t.least_expiry slot) (sym moment)
-      (subst (λ (m : ℕ). IsLiveSlot s.moment m slot) (sym least)
-      (IsLiveSlot-KeepsSlot s.moment s.least_expiry (get bytes_eq s.slots key)
-      (get bytes_eq t.slots key) (slots key) (kept.slots key) slot at));
+  slots = λ key slot at. subst (λ (m : ℕ). IsLiveSlot m slot) (sym moment)
+      (IsLiveSlot-KeepsSlot s.moment (get bytes_eq s.slots key)
+      (get bytes_eq t.slots key) (slots key) (kept.slots key) slot at);
+  expiries = subst (AreExpiries t.slots.entries) (sym expiries)
+      (AreExpiries-shown s.slots.entries t.slots.entries s.expiries shown kept.expiries);
+  places = omega (
+    arith,
+    length_shown s.slots.entries t.slots.entries shown,
+    ap length expiries,
+    ap length spares,
+    kept.places,
+  );
   room = le_trans (subst (λ (n : ℕ). n ≤ spare s.slots) (ap length (sym spares)) kept.room) room;
   ready = λ key p at. let r = kept.ready key p (ap (lookup (bytes_eq key)) (sym spares) ∙ at) in
       record {
@@ -622,15 +673,18 @@ IsKeySpace-KeepsSlot s t kept moment least spares slots room = record {
 
 -- and where memory for a member of one key is added
 pub IsKeySpace-prepared : (s t : Inside) (key : List ℕ) (p : Spare) → IsKeySpace s
-    → t.moment ≡ s.moment → t.least_expiry ≡ s.least_expiry → t.slots ≡ s.slots
+    → t.moment ≡ s.moment → t.expiries ≡ s.expiries → t.slots ≡ s.slots
     → WritesKey (get bytes_eq s.spares) (get bytes_eq t.spares) key (Some p)
+    → index_map_len t.slots + index_map_len t.spares ≤ length t.expiries
     → index_map_len t.spares ≤ spare t.slots → IsReadySpare (get bytes_eq t.slots key) p
     → IsKeySpace t
-IsKeySpace-prepared s t key p kept moment least slots sets room ready = record {
+IsKeySpace-prepared s t key p kept moment expiries slots sets places room ready = record {
   moment = subst (λ m. m ≤ last_moment) (sym moment) kept.moment;
-  slots = λ q slot at. subst (λ (m : ℕ). IsLiveSlot m t.least_expiry slot) (sym moment)
-      (subst (λ (m : ℕ). IsLiveSlot s.moment m slot) (sym least)
-      (kept.slots q slot (ap (λ m. get bytes_eq m q) (sym slots) ∙ at)));
+  slots = λ q slot at. subst (λ (m : ℕ). IsLiveSlot m slot) (sym moment)
+      (kept.slots q slot (ap (λ m. get bytes_eq m q) (sym slots) ∙ at));
+  expiries = subst (λ es. AreExpiries es t.expiries) (ap (λ m. m.entries) (sym slots))
+      (subst (AreExpiries s.slots.entries) (sym expiries) kept.expiries);
+  places = places;
   room = room;
   ready = at_each-with_key (λ q o. ForSome o (IsReadySpare (get bytes_eq t.slots q)))
       (get bytes_eq s.spares) (get bytes_eq t.spares) key (Some p) sets

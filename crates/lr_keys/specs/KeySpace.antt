@@ -1,7 +1,7 @@
 -- Keys with a value and an expiry or none, and what each call does to them, as the Redis command
 -- pages say.
 use Rattle.std.specs.Prelude.{◌≡◌, ◌+◌, ◌-◌, ◌≤◌, ◌<◌, ℕ, Bool, true, false, nat_lt, ◌&&◌, List, [], ◌∷◌, length, Option, Some, None, is_some, Result, Ok, Err, IsOk, ℤ, pos, negsuc, if◌then◌else◌}
-use Rattle.std.specs.Option.{ok_or, ForSome}
+use Rattle.std.specs.Option.{ok_or, option_and_then, ForSome}
 use Rattle.std.specs.Str.{bytes_eq}
 use Rattle.std.specs.List.{list_any}
 use Rattle.std.specs.Map.{lookup}
@@ -37,6 +37,10 @@ pub record Keys : Type 0 where
 -- what is at a key
 unfoldable pub entry_at : Keys → List ℕ → Option KeyEntry
 entry_at keys key = lookup (bytes_eq key) keys.entries
+
+-- the expiry of a key, if it is there and has one (Redis command page PEXPIRETIME)
+abbrev pub expiry_at : Keys → List ℕ → Option ℕ
+expiry_at keys key = option_and_then (λ e. e.expiry) (entry_at keys key)
 
 -- what memory was taken for at a key
 unfoldable pub plan_at : Keys → List ℕ → Option Plan
@@ -228,6 +232,15 @@ live_entry moment None = None
 -- the keys that are there at the moment
 abbrev pub live_entries : ℕ → (List ℕ → Option KeyEntry) → List ℕ → Option KeyEntry
 live_entries moment entries key = live_entry moment (entries key)
+
+-- of the keys no other than this one changes (this project's own)
+abbrev pub ChangesOnly : List ℕ → Keys → Keys → Type 0
+ChangesOnly key old new = (q : List ℕ) → bytes_eq key q ≡ false → entry_at new q ≡ entry_at old q
+
+-- The moment and the keys are as they were. What memory is prepared for may be another.
+pub record StaysSame (old new : Keys) : Type 0 where
+  pub moment : new.moment ≡ old.moment
+  pub entries : entry_at new ≡ entry_at old
 
 -- every key that isn't in the list holds what is live of it at the new moment (this project's own)
 abbrev pub OthersAreLive : List (List ℕ) → Keys → Keys → Type 0

@@ -1,13 +1,14 @@
 -- How the fields of a key space, its slots and spares, stand for the keys that a contract sees.
-use Rattle.std.specs.Prelude.{◌≡◌, ◌≤◌, ◌<◌, ℕ, List, [], Option, Some, None, ⊤, map, fold, min, ◌^◌, ◌-◌, if◌then◌else◌}
+use Rattle.std.specs.Prelude.{◌≡◌, ◌≤◌, ◌<◌, ◌+◌, ℕ, ℤ, List, [], ◌∷◌, Option, Some, None, ⊤, map, length, get_or, slice_index, if◌then◌else◌}
 use Rattle.std.specs.Option.{ForSome}
 use Rattle.std.specs.Str.{bytes_eq}
 use Rattle.indexmap.specs.IndexMap.{get, spare, index_map_len}
+use Rattle.lr_expiry.specs.declared.limits.TheConstants.{NO_EXPIRY}
 use Rattle.lr_limits.specs.Limits.{last_moment}
 use Rattle.lr_keys.specs.declared.slot.Slot.{Slot}
 use Rattle.lr_keys.specs.declared.slot.Spare.{Spare}
 use Rattle.lr_keys.specs.declared.slot.Stored.{Stored}
-use Rattle.lr_keys.specs.declared.slot.Stored.TheVariants.{Hash, Counter}
+use Rattle.lr_keys.specs.declared.slot.Stored.TheVariants.{Single, Hash, Counter}
 use Rattle.lr_keys.specs.declared.value_kind.ValueKind.{ValueKind}
 use Rattle.lr_keys.specs.declared.value_kind.ValueKind.TheVariants.{Hash as HashKind}
 use Rattle.lr_keys.specs.declared.key_space.KeySpace.TheInside.{Inside}
@@ -15,8 +16,15 @@ use Rattle.lr_keys.specs.KeySpace.{Content, Fields, Number, KeyEntry, Plan, Keys
 
 -- what a stored value is to a contract
 abbrev pub content_of : Stored → Content
+content_of (Single field number) = Fields ((field, number) ∷ [])
 content_of (Hash fields) = Fields fields.pairs
 content_of (Counter n) = Number n
+
+-- the field of a hash with no table
+abbrev pub single_of : Stored → Option (List ℕ × ℤ)
+single_of (Single field number) = Some (field, number)
+single_of (Hash _) = None
+single_of (Counter _) = None
 
 -- what a slot is
 abbrev pub key_entry_of : Slot → KeyEntry
@@ -42,8 +50,9 @@ keys_inside s = record {
   plans = plans_of s.spares.entries;
 }
 
--- a hash has room for a field
+-- the table of a hash has room for a field
 abbrev pub HasRoom : Stored → Type 0
+HasRoom (Single _ _) = ⊤
 HasRoom (Hash fields) = 0 < fields.room
 HasRoom (Counter _) = ⊤
 
@@ -53,9 +62,9 @@ IsRoomFor None _ = ⊤
 IsRoomFor (Some slot) HashKind = HasRoom slot.value
 IsRoomFor (Some slot) _ = ⊤
 
--- what it means for the room of the spare hash
+-- what it means for the room of the spare table: a hash of one field can take a second
 abbrev pub IsSpareFor : ValueKind → ℕ → Type 0
-IsSpareFor HashKind room = 0 < room
+IsSpareFor HashKind room = 2 ≤ room
 IsSpareFor _ room = ⊤
 
 -- with this memory the member can be made, whether the key is there or not
@@ -64,16 +73,30 @@ pub record IsReadySpare (slot : Option Slot) (s : Spare) : Type 0 where
   pub spare : IsSpareFor s.kind s.hash.room
   pub room : IsRoomFor slot s.kind
 
--- a slot is live, and expires no earlier than the bound
-pub record IsLiveSlot (moment least : ℕ) (slot : Slot) : Type 0 where
-  pub live : IsLive moment (key_entry_of slot)
-  pub bound : ForSome slot.expiry (λ expiry. least ≤ expiry)
+-- a slot is live
+abbrev pub IsLiveSlot : ℕ → Slot → Type 0
+IsLiveSlot moment slot = IsLive moment (key_entry_of slot)
 
--- all keys are live, and there is room for each key for which memory was taken
+-- what stands for an expiry among the expiries by place
+abbrev pub moment_of : Option ℕ → ℕ
+moment_of (Some expiry) = expiry
+moment_of None = NO_EXPIRY
+
+-- at the place of each slot stands its expiry, and behind the slots there is none
+pub record AreExpiries (slots : List (List ℕ × Slot)) (expiries : List ℕ) : Type 0 where
+  pub room : length slots ≤ length expiries
+  pub each : (k : ℕ) (d : List ℕ × Slot) → k < length slots
+      → slice_index expiries k ≡ moment_of (get_or slots k d).1.expiry
+  pub rest : (k : ℕ) → length slots ≤ k → k < length expiries
+      → slice_index expiries k ≡ NO_EXPIRY
+
+-- all keys are live, their expiries are known by place, and there is room and a place for each key
+-- for which memory was taken
 pub record IsKeySpace (s : Inside) : Type 0 where
   pub moment : s.moment ≤ last_moment
-  pub slots : (key : List ℕ)
-      → ForSome (get bytes_eq s.slots key) (IsLiveSlot s.moment s.least_expiry)
+  pub slots : (key : List ℕ) → ForSome (get bytes_eq s.slots key) (IsLiveSlot s.moment)
+  pub expiries : AreExpiries s.slots.entries s.expiries
+  pub places : index_map_len s.slots + index_map_len s.spares ≤ length s.expiries
   pub room : index_map_len s.spares ≤ spare s.slots
   pub ready : (key : List ℕ)
       → ForSome (get bytes_eq s.spares key) (IsReadySpare (get bytes_eq s.slots key))
@@ -89,15 +112,6 @@ KeepsSlot (Some u) (Some w) =
     (key_entry_of w ≡ key_entry_of u) × (HasRoom u.value → HasRoom w.value)
 KeepsSlot None (Some w) = ⊥
 KeepsSlot (Some u) None = ⊥
-
--- the lesser of a bound and an expiry
-abbrev pub sooner_of : ℕ → Option ℕ → ℕ
-sooner_of least (Some expiry) = min least expiry
-sooner_of least None = least
-
--- no slot expires before this
-abbrev pub least_of : List Slot → ℕ
-least_of slots = fold (λ least slot. sooner_of least slot.expiry) (2 ^ 64 - 1) slots
 
 -- what is left of a slot at the moment
 abbrev pub live_slot : ℕ → Option Slot → Option Slot

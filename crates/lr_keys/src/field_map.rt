@@ -1,4 +1,4 @@
-ghost use Rattle.std.specs.Prelude.{◌≡◌, ◌+◌, ◌<◌, ◌≤◌, [], None, IsSome, IfOk, OnOk, OnErr, is_some, length, IsTrue, IsOk, false, ◌↔◌};
+ghost use Rattle.std.specs.Prelude.{◌≡◌, ◌+◌, ◌<◌, ◌≤◌, [], None, IsSome, IfOk, OnOk, OnErr, is_some, length, IsTrue, ◌↔◌};
 ghost use Rattle.lr_keys.specs.FieldMap.{field_value, with_field, without_field, sum_of};
 
 use indexmap::IndexMap;
@@ -87,23 +87,14 @@ impl FieldMap {
         self.numbers.insert(*field, number).unwrap();
     }
 
-    /// Puts a new field last. With no room of its own for that, it takes memory, and leaves what
-    /// room there was.
-    pub(crate) fn add(
-        &mut self,
-        field: &Brief,
-        number: i64,
-        has_room: bool,
-    ) -> Result<(), AllocError>
-        requires { IsTrue has_room → 0 < self.old.room }
+    /// Puts a new field last. It takes memory, and leaves room for one field more.
+    pub(crate) fn add(&mut self, field: &Brief, number: i64) -> Result<(), AllocError>
         ensures ok { OnOk result (self.new.pairs ≡ with_field field.now number self.old.pairs) }
+        ensures room { OnOk result (0 < self.new.room) }
         ensures err { OnErr result (self.new.pairs ≡ self.old.pairs) }
-        ensures succeeds { IsTrue has_room → IsOk result }
-        ensures room { has_room ≡ false → 0 < self.old.room → 0 < self.new.room }
+        ensures kept { OnErr result (self.old.room ≤ self.new.room) }
     {
-        if !has_room {
-            self.reserve(2)?;
-        }
+        self.reserve(2)?;
         self.push(field, number);
         Ok(())
     }

@@ -1,18 +1,20 @@
-ghost use Rattle.std.specs.Prelude.{◌≡◌, ℕ, ℤ, List, [], ◌+◌, ◌<◌, ◌≤◌, length, None, IsSome, IsTrue, IsOk, IfOk, OnOk, OnErr, is_some, nat_lt, false, true, ◌≢◌, max, option_map, if◌then◌else◌};
+ghost use Rattle.std.specs.Prelude.{◌≡◌, ℕ, ℤ, List, [], ◌+◌, ◌<◌, ◌≤◌, length, None, IsSome, IfSome, ◌↔◌, IsTrue, IsOk, IfOk, OnOk, OnErr, is_some, nat_lt, false, true, ◌≢◌, max, option_map, if◌then◌else◌};
 ghost use Rattle.std.specs.Option.{option_copied, ForSome};
 ghost use Rattle.std.specs.Str.{bytes_eq};
 ghost use Rattle.indexmap.specs.IndexMap.{get, index_map_len, spare};
 ghost use Rattle.lr_keys.specs.FieldMap.{Pairs};
-ghost use Rattle.lr_keys.specs.KeySpace.{Answers, AreLive, ChangesEntry, IsLive, IsPrepared, TakesField, TakesPlan, UsesPlan, WritesField, WritesNumber, entry_at, plan_at, has_field, has_counter, has_plan, kind_at, hash_at, counter_at, field_at, found_in, field_after_increment, counter_after_increment, entry_with_field, entry_with_number, entry_without_field, entry_with_expiry, time_left, live_entries};
+ghost use Rattle.lr_keys.specs.KeySpace.{Answers, AreLive, ChangesEntry, IsLive, IsPrepared, TakesField, TakesPlan, UsesPlan, WritesField, WritesNumber, entry_at, plan_at, expiry_at, has_field, has_counter, has_plan, kind_at, hash_at, counter_at, field_at, found_in, field_after_increment, counter_after_increment, entry_with_field, entry_with_number, entry_without_field, entry_with_expiry, time_left, live_entries};
 ghost use Rattle.lr_keys.specs.Table.{with_key};
 ghost use Rattle.lr_limits.specs.Limits.{last_moment, longest_lease, member_limit};
 
+use super::expiry::{make_place, remove_gone, remove_slot, remove_slot_if, set_expiry};
 use super::fault::KeyFault;
-use super::field_map::{FieldMap, checked_sum};
+use super::field_map::checked_sum;
 use super::slot::{Slot, Spare, Stored};
-use super::tables::{drop_spare, insert_slot, make_room, remove_gone, remove_if, take_spare};
+use super::tables::{drop_spare, insert_slot, make_room, take_spare};
 use super::value_kind::ValueKind;
 use indexmap::IndexMap;
+use lr_expiry::{Expiries, NO_EXPIRY};
 use lr_limits::MOST_MEMBERS;
 use lr_text::Brief;
 use std::alloc::{AllocError, Global};
@@ -31,9 +33,9 @@ pub type Fields = Vec<(Brief, i64)>;
 #[derive(Drop)]
 pub struct KeySpace {
     moment: u64,
-    /// No key expires before this: `u64::MAX` where none expires at all.
-    least_expiry: u64,
     slots: IndexMap<Brief, Slot>,
+    /// The expiry of the key at each place of `slots`.
+    expiries: Expiries,
     spares: IndexMap<Brief, Spare>,
 }
 
@@ -60,8 +62,8 @@ impl KeySpace {
     {
         Ok(KeySpace {
             moment: 0,
-            least_expiry: u64::MAX,
             slots: IndexMap::new(alloc),
+            expiries: Expiries::new(alloc),
             spares: IndexMap::with_capacity(alloc, PREPARED_KEYS)?,
         })
     }
@@ -95,10 +97,24 @@ impl KeySpace {
     {
         let moment = self.moment.max(moment);
         self.moment = moment;
-        if moment < self.least_expiry {
-            return;
+        remove_gone(&mut self.slots, &mut self.expiries, moment);
+    }
+
+    /// The least expiry of any key, a moment. None where no key has one.
+    pub fn next_expiry(&self) -> Option<u64>
+        ensures some { IfSome result (λ expiry.
+            (key : List ℕ) × (expiry_at self.now key ≡ Some expiry)) }
+        ensures least { IfSome result (λ least. (key : List ℕ)
+            → ForSome (expiry_at self.now key) (λ expiry. least ≤ expiry)) }
+        ensures none { result ≡ None ↔ ((key : List ℕ) → expiry_at self.now key ≡ None) }
+    {
+        // `len` is called for its clause that the keys differ, which the proof cites.
+        let _len = self.slots.len();
+        let least = self.expiries.least();
+        if least == NO_EXPIRY {
+            return None;
         }
-        self.least_expiry = remove_gone(&mut self.slots, moment);
+        Some(least)
     }
 
     /// Whether the key is there.
@@ -173,7 +189,7 @@ impl KeySpace {
         ensures prepared { plan_at self.new ≡ plan_at self.old }
         ensures absent { result ≡ false → self.new ≡ self.old }
     {
-        self.slots.swap_remove(key).is_some()
+        remove_slot(&mut self.slots, &mut self.expiries, key)
     }
 
     /// Sets the key's expiry to this many milliseconds from the moment, 1 to the longest lease, and
@@ -189,12 +205,7 @@ impl KeySpace {
         ensures absent { result ≡ false → self.new ≡ self.old }
     {
         let expiry = self.moment + millis;
-        let Some(slot) = self.slots.get_mut(key) else {
-            return false;
-        };
-        slot.expiry = Some(expiry);
-        self.least_expiry = self.least_expiry.min(expiry);
-        true
+        set_expiry(&mut self.slots, &mut self.expiries, key, expiry)
     }
 
     /// Adds to a field of the hash, and gives the sum. A field that isn't there counts as 0, and a
@@ -301,7 +312,7 @@ impl KeySpace {
         ensures err { OnErr result (self.new ≡ self.old) }
     {
         let spare = Spare::new(alloc, kind, member)?;
-        self.slots.reserve(self.spares.len() + 1)?;
+        make_place(&mut self.slots, &mut self.expiries, self.spares.len())?;
         make_room(&mut self.slots, key, kind)?;
         self.spares.insert(*key, spare)?;
         Ok(())
@@ -352,15 +363,15 @@ impl KeySpace {
             → IsOk result }
         ensures err { OnErr result (self.new ≡ self.old) }
     {
-        let prepared = self.is_prepared(key, ValueKind::Hash, field);
-        if self.exists(key) {
-            return self.add_field(key, field, number, prepared);
-        }
-        if prepared {
-            self.use_hash(key, field, number);
+        let there = self.exists(key);
+        if self.is_prepared(key, ValueKind::Hash, field) {
+            self.use_field(key, field, number, there);
             return Ok(());
         }
-        self.make_hash(alloc, key, field, number)
+        if there {
+            return self.add_field(alloc, key, field, number);
+        }
+        self.make_hash(key, field, number)
     }
 
     // Whether memory for this member of the key is there.
@@ -384,28 +395,54 @@ impl KeySpace {
         slot.value.write_field(field, number);
     }
 
-    // Puts a new field into a hash that is there.
+    // Puts a new field into a hash that is there. What is prepared for another field stays.
     fn add_field(
         &mut self,
+        alloc: Global,
         key: &Brief,
         field: &Brief,
         number: i64,
-        prepared: bool,
     ) -> Result<(), AllocError>
         requires there { IsSome (entry_at self.old key.now) }
         requires few { TakesField self.old key.now }
-        requires prepared { prepared ≡ has_plan self.old key.now ValueKind.Hash field.now }
         ensures entry { OnOk result (WritesField self.old self.new key.now field.now number) }
         ensures moment { self.new.moment ≡ self.old.moment }
-        ensures prepared { OnOk result
-            (UsesPlan self.old self.new false key.now ValueKind.Hash field.now) }
-        ensures succeeds { IsTrue prepared → IsOk result }
+        ensures prepared { plan_at self.new ≡ plan_at self.old }
         ensures err { OnErr result (self.new ≡ self.old) }
     {
         let slot = self.slots.get_mut(key).unwrap();
-        slot.value.add_field(field, number, prepared)?;
-        remove_if(&mut self.spares, key, prepared);
-        Ok(())
+        slot.value.add_field(alloc, field, number)
+    }
+
+    // Puts a new field into a hash, of the memory that was taken for it, and makes the hash where
+    // the key isn't there.
+    fn use_field(&mut self, key: &Brief, field: &Brief, number: i64, there: bool)
+        requires there { there ≡ is_some (entry_at self.old key.now) }
+        requires few { TakesField self.old key.now }
+        requires prepared { IsTrue (has_plan self.old key.now ValueKind.Hash field.now) }
+        ensures entry { WritesField self.old self.new key.now field.now number }
+        ensures moment { self.new.moment ≡ self.old.moment }
+        ensures prepared { plan_at self.new ≡ with_key key.now None (plan_at self.old) }
+    {
+        if there {
+            self.put_field(key, field, number);
+        } else {
+            self.use_hash(key, field, number);
+        }
+    }
+
+    // Puts a new field into a hash that is there, of the memory that was taken for it.
+    fn put_field(&mut self, key: &Brief, field: &Brief, number: i64)
+        requires there { IsSome (entry_at self.old key.now) }
+        requires few { TakesField self.old key.now }
+        requires prepared { IsTrue (has_plan self.old key.now ValueKind.Hash field.now) }
+        ensures entry { WritesField self.old self.new key.now field.now number }
+        ensures moment { self.new.moment ≡ self.old.moment }
+        ensures prepared { plan_at self.new ≡ with_key key.now None (plan_at self.old) }
+    {
+        let Spare { hash, .. } = take_spare(&mut self.spares, key);
+        let slot = self.slots.get_mut(key).unwrap();
+        slot.value.put_field(field, number, hash);
     }
 
     // Makes a key that is absent.
@@ -419,19 +456,13 @@ impl KeySpace {
         ensures prepared { plan_at self.new ≡ plan_at self.old }
         ensures err { OnErr result (self.new ≡ self.old) }
     {
-        self.slots.reserve(self.spares.len() + 1)?;
+        make_place(&mut self.slots, &mut self.expiries, self.spares.len())?;
         insert_slot(&mut self.slots, key, value);
         Ok(())
     }
 
     // Makes a hash with one field.
-    fn make_hash(
-        &mut self,
-        alloc: Global,
-        key: &Brief,
-        field: &Brief,
-        number: i64,
-    ) -> Result<(), AllocError>
+    fn make_hash(&mut self, key: &Brief, field: &Brief, number: i64) -> Result<(), AllocError>
         requires absent { entry_at self.old key.now ≡ None }
         ensures entry { OnOk result (ChangesEntry self.old self.new key.now
             (λ _. Some (entry_with_field field.now number None))) }
@@ -439,9 +470,11 @@ impl KeySpace {
         ensures prepared { plan_at self.new ≡ plan_at self.old }
         ensures err { OnErr result (self.new ≡ self.old) }
     {
-        let mut fields = FieldMap::with_room(alloc, 2)?;
-        fields.push(field, number);
-        self.make_key(key, Stored::Hash(fields))
+        let value = Stored::Single {
+            field: *field,
+            number,
+        };
+        self.make_key(key, value)
     }
 
     // Makes a hash with one field, of the memory that was taken for that.
@@ -453,10 +486,12 @@ impl KeySpace {
         ensures moment { self.new.moment ≡ self.old.moment }
         ensures prepared { plan_at self.new ≡ with_key key.now None (plan_at self.old) }
     {
-        let Spare { hash, .. } = take_spare(&mut self.spares, key);
-        let mut fields = hash;
-        fields.push(field, number);
-        insert_slot(&mut self.slots, key, Stored::Hash(fields));
+        drop_spare(&mut self.spares, key);
+        let value = Stored::Single {
+            field: *field,
+            number,
+        };
+        insert_slot(&mut self.slots, key, value);
     }
 
     // Makes a counter, of the memory that was taken for that.
@@ -492,6 +527,6 @@ impl KeySpace {
     {
         let slot = self.slots.get_mut(key).unwrap();
         let emptied = slot.value.remove_field(field);
-        remove_if(&mut self.slots, key, emptied);
+        remove_slot_if(&mut self.slots, &mut self.expiries, key, emptied);
     }
 }

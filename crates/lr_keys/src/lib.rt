@@ -6,6 +6,7 @@
 //! an order among the keys.
 #![tactic(auto)]
 
+mod expiry;
 mod fault;
 mod field_map;
 mod key_space;

@@ -1,7 +1,7 @@
-ghost use Rattle.std.specs.Prelude.{◌≡◌, ℕ, ℤ, List, [], length, false, IsTrue, IsOk, IfOk, OnOk, OnErr};
+ghost use Rattle.std.specs.Prelude.{◌≡◌, ℕ, ℤ, List, ◌<◌, ◌≤◌, [], ◌∷◌, length, None, false, IsTrue, IfOk, OnOk, OnErr};
 ghost use Rattle.lr_keys.specs.FieldMap.{Pairs};
 ghost use Rattle.lr_keys.specs.KeySpace.{Answers, Number, kind_in, hash_in, field_of, is_there, counter_in, content_with_field, content_without_field, is_empty_hash, is_plan_for};
-ghost use Rattle.lr_keys.specs.Slots.{content_of, plan_of, HasRoom, IsSpareFor};
+ghost use Rattle.lr_keys.specs.Slots.{content_of, plan_of, single_of, HasRoom, IsSpareFor};
 
 use super::fault::KeyFault;
 use super::field_map::FieldMap;
@@ -12,6 +12,9 @@ use std::alloc::{AllocError, Global};
 /// The value of a key. Lists and sorted sets become two more variants.
 #[derive(Drop)]
 pub(crate) enum Stored {
+    /// A hash of one field, which needs no table. What is held is most often such a hash.
+    Single { field: Brief, number: i64 },
+    /// A hash of several fields, or one that had several.
     Hash(FieldMap),
     Counter(i64),
 }
@@ -28,8 +31,16 @@ pub(crate) struct Slot {
 pub(crate) struct Spare {
     pub(crate) kind: ValueKind,
     pub(crate) member: Brief,
-    /// An empty hash. For the kind `Hash` it has room for a field.
+    /// A table with no fields. For the kind `Hash` it has room for two, so that a hash of one field
+    /// can take a second.
     pub(crate) hash: FieldMap,
+}
+
+// One field and its number.
+fn one_pair(alloc: Global, field: &Brief, number: i64) -> Result<Vec<(Brief, i64)>, AllocError>
+    ensures { IfOk result (λ pairs. pairs.items ≡ (field.now, number) ∷ []) }
+{
+    Ok(vec![in alloc; (*field, number)]?)
 }
 
 impl Stored {
@@ -37,7 +48,7 @@ impl Stored {
         ensures { result ≡ kind_in (content_of self.now) }
     {
         match self {
-            Stored::Hash(_) => ValueKind::Hash,
+            Stored::Single { .. } | Stored::Hash(_) => ValueKind::Hash,
             Stored::Counter(_) => ValueKind::Counter,
         }
     }
@@ -46,6 +57,11 @@ impl Stored {
         ensures { result ≡ field_of field.now (hash_in (content_of self.now)) }
     {
         match self {
+            Stored::Single { field: own, number } => Ok(if *field == *own {
+                Some(*number)
+            } else {
+                None
+            }),
             Stored::Hash(fields) => Ok(fields.get(field)),
             Stored::Counter(_) => Err(KeyFault::WrongKind),
         }
@@ -56,7 +72,7 @@ impl Stored {
     {
         match self {
             Stored::Counter(number) => Ok(Some(*number)),
-            Stored::Hash(_) => Err(KeyFault::WrongKind),
+            Stored::Single { .. } | Stored::Hash(_) => Err(KeyFault::WrongKind),
         }
     }
 
@@ -64,6 +80,7 @@ impl Stored {
         ensures { Answers (λ pairs. pairs.items) result (hash_in (content_of self.now)) }
     {
         match self {
+            Stored::Single { field, number } => Ok(one_pair(alloc, field, *number)?),
             Stored::Hash(fields) => Ok(fields.to_pairs(alloc)?),
             Stored::Counter(_) => Err(KeyFault::WrongKind),
         }
@@ -75,12 +92,14 @@ impl Stored {
             → result ≡ length pairs }
     {
         match self {
+            Stored::Single { .. } => 1,
             Stored::Hash(fields) => fields.len(),
             Stored::Counter(_) => 0,
         }
     }
 
-    /// Makes room for a new field of a hash.
+    /// Makes room for a new field in the table of a hash. What has no table gets one that was taken
+    /// for it, once it has a second field.
     pub(crate) fn make_room(&mut self) -> Result<(), AllocError>
         ensures value { content_of self.new ≡ content_of self.old }
         ensures room { OnOk result (HasRoom self.new) }
@@ -88,7 +107,7 @@ impl Stored {
     {
         match self {
             Stored::Hash(fields) => fields.reserve(1),
-            Stored::Counter(_) => Ok(()),
+            Stored::Single { .. } | Stored::Counter(_) => Ok(()),
         }
     }
 
@@ -100,6 +119,7 @@ impl Stored {
         ensures room { HasRoom self.old → HasRoom self.new }
     {
         match self {
+            Stored::Single { number: own, .. } => *own = number,
             Stored::Hash(fields) => fields.write(field, number),
             Stored::Counter(_) => {}
         }
@@ -116,35 +136,79 @@ impl Stored {
         }
     }
 
-    /// Puts a new field last in a hash. With no room of its own for that, it takes memory, and
-    /// leaves what room there was.
+    /// Puts a new field last in a hash. It takes memory, and leaves room for one field more.
     pub(crate) fn add_field(
         &mut self,
+        alloc: Global,
         field: &Brief,
         number: i64,
-        has_room: bool,
     ) -> Result<(), AllocError>
-        requires { IsTrue has_room → HasRoom self.old }
         ensures ok { OnOk result (content_of self.new
             ≡ content_with_field field.now number (content_of self.old)) }
         ensures err { OnErr result (content_of self.new ≡ content_of self.old) }
-        ensures succeeds { IsTrue has_room → IsOk result }
-        ensures room { has_room ≡ false → HasRoom self.old → HasRoom self.new }
+        ensures room { HasRoom self.old → HasRoom self.new }
     {
+        if self.single().is_some() {
+            self.widen(FieldMap::with_room(alloc, 3)?);
+        }
         match self {
-            Stored::Hash(fields) => fields.add(field, number, has_room),
-            Stored::Counter(_) => Ok(()),
+            Stored::Hash(fields) => fields.add(field, number),
+            Stored::Single { .. } | Stored::Counter(_) => Ok(()),
         }
     }
 
-    /// Removes a field of a hash, and says whether it was the last one.
+    /// Puts a new field last in a hash, for which there is room in its table. A hash of one field
+    /// gets this empty table.
+    pub(crate) fn put_field(&mut self, field: &Brief, number: i64, table: FieldMap)
+        requires room { HasRoom self.old }
+        requires empty { table.pairs ≡ [] }
+        requires two { 2 ≤ table.room }
+        ensures { content_of self.new ≡ content_with_field field.now number (content_of self.old) }
+    {
+        self.widen(table);
+        match self {
+            Stored::Hash(fields) => fields.push(field, number),
+            Stored::Single { .. } | Stored::Counter(_) => {}
+        }
+    }
+
+    // Gives a hash of one field this empty table.
+    fn widen(&mut self, table: FieldMap)
+        requires empty { table.pairs ≡ [] }
+        requires two { 2 ≤ table.room }
+        ensures value { content_of self.new ≡ content_of self.old }
+        ensures wide { single_of self.new ≡ None }
+        ensures room { HasRoom self.old → HasRoom self.new }
+    {
+        let Some((field, number)) = self.single() else {
+            return;
+        };
+        let mut fields = table;
+        fields.push(&field, number);
+        *self = Stored::Hash(fields);
+    }
+
+    // The field and the number of a hash with no table.
+    fn single(&self) -> Option<(Brief, i64)>
+        ensures { result ≡ single_of self.now }
+    {
+        match self {
+            Stored::Single { field, number } => Some((*field, *number)),
+            Stored::Hash(_) | Stored::Counter(_) => None,
+        }
+    }
+
+    /// Removes a field of a hash, and says whether it was the last one. A hash of one field stays as
+    /// it is where that is removed.
     pub(crate) fn remove_field(&mut self, field: &Brief) -> bool
-        ensures value { content_of self.new
+        ensures value { result ≡ false → content_of self.new
             ≡ content_without_field field.now (content_of self.old) }
-        ensures empty { result ≡ is_empty_hash (content_of self.new) }
+        ensures empty { result
+            ≡ is_empty_hash (content_without_field field.now (content_of self.old)) }
         ensures room { HasRoom self.old → HasRoom self.new }
     {
         match self {
+            Stored::Single { field: own, .. } => *field == *own,
             Stored::Hash(fields) => {
                 fields.remove(field);
                 fields.is_empty()
@@ -163,7 +227,7 @@ impl Spare {
         ensures room { IfOk result (λ s. IsSpareFor s.kind s.hash.room) }
     {
         let fields = match kind {
-            ValueKind::Hash => 1,
+            ValueKind::Hash => 2,
             _ => 0,
         };
         Ok(Spare {

@@ -1,10 +1,8 @@
 //! Tables by key: what the key space does to its own.
-ghost use Rattle.std.specs.Prelude.{◌≡◌, ℕ, List, ◌+◌, ◌<◌, ◌≤◌, None, Some, IsSome, OnOk, if◌then◌else◌};
+ghost use Rattle.std.specs.Prelude.{◌≡◌, ℕ, List, [], ◌∷◌, ◌++◌, ◌+◌, ◌<◌, ◌≤◌, None, Some, IsSome, OnOk};
 ghost use Rattle.std.specs.Str.{bytes_eq};
-ghost use Rattle.indexmap.specs.IndexMap.{get, index_map_len, spare, values};
-ghost use Rattle.lr_keys.specs.Slots.{KeepsSlot, IsRoomFor, least_of, live_slot, new_slot, key_entries_of, sooner_of};
-ghost use Rattle.lr_keys.specs.KeySpace.{is_ahead};
-ghost use Rattle.std.specs.Option.{ForSome};
+ghost use Rattle.indexmap.specs.IndexMap.{get, index_map_len, spare};
+ghost use Rattle.lr_keys.specs.Slots.{KeepsSlot, IsRoomFor, new_slot, key_entries_of};
 ghost use Rattle.lr_keys.specs.Table.{WritesKey, without_key_if};
 
 use super::slot::{Slot, Spare, Stored};
@@ -12,18 +10,6 @@ use super::value_kind::ValueKind;
 use indexmap::IndexMap;
 use lr_text::Brief;
 use std::alloc::AllocError;
-
-// Takes a key out of a table, if it is to go.
-pub(crate) fn remove_if<T: Drop>(table: &mut IndexMap<Brief, T>, key: &Brief, gone: bool)
-    ensures table { (q : List ℕ) → get bytes_eq table.new q
-        ≡ without_key_if gone key.now (get bytes_eq table.old) q }
-    ensures fewer { index_map_len table.new ≤ index_map_len table.old }
-    ensures room { spare table.old ≤ spare table.new }
-{
-    if gone {
-        table.swap_remove(key);
-    }
-}
 
 // Takes the memory out that was taken for the key.
 pub(crate) fn take_spare(spares: &mut IndexMap<Brief, Spare>, key: &Brief) -> Spare
@@ -76,9 +62,13 @@ fn make_hash_room(slots: &mut IndexMap<Brief, Slot>, key: &Brief) -> Result<(), 
 
 // Puts a new key last, for which there is room.
 pub(crate) fn insert_slot(slots: &mut IndexMap<Brief, Slot>, key: &Brief, value: Stored)
-    requires { 0 < spare slots.old }
+    requires room { 0 < spare slots.old }
+    requires absent { get bytes_eq slots.old key.now ≡ None }
     ensures slots { let slot = new_slot value in
         WritesKey (get bytes_eq slots.old) (get bytes_eq slots.new) key.now (Some slot) }
+    ensures entries { let slot = new_slot value in
+        slots.new.entries ≡ slots.old.entries ++ (key.now, slot) ∷ [] }
+    ensures len { index_map_len slots.new ≡ index_map_len slots.old + 1 }
     ensures room { spare slots.old ≤ spare slots.new + 1 }
 {
     let slot = Slot {
@@ -86,51 +76,4 @@ pub(crate) fn insert_slot(slots: &mut IndexMap<Brief, Slot>, key: &Brief, value:
         expiry: None,
     };
     slots.insert(*key, slot).unwrap();
-}
-
-// The lesser of a bound and an expiry.
-fn sooner(least: u64, expiry: Option<u64>) -> u64
-    ensures { result ≡ sooner_of least expiry }
-{
-    match expiry {
-        Some(expiry) => least.min(expiry),
-        None => least,
-    }
-}
-
-// Whether a key with this expiry is there at the moment.
-fn is_ahead(expiry: Option<u64>, moment: u64) -> bool
-    ensures { result ≡ is_ahead moment expiry }
-{
-    match expiry {
-        Some(expiry) => moment < expiry,
-        None => true,
-    }
-}
-
-// A moment before which no key expires.
-fn least_expiry(slots: &IndexMap<Brief, Slot>) -> u64
-    ensures { result ≡ least_of (values slots.now) }
-{
-    slots
-        .values()
-        .fold(u64::MAX, |least, slot| sooner(least, slot.expiry))
-}
-
-// Removes the keys that are gone at the moment, and gives a moment before which no other expires.
-pub(crate) fn remove_gone(slots: &mut IndexMap<Brief, Slot>, moment: u64) -> u64
-    ensures slots { (q : List ℕ)
-        → get bytes_eq slots.new q ≡ live_slot moment (get bytes_eq slots.old q) }
-    ensures bound { (q : List ℕ) → ForSome (get bytes_eq slots.new q)
-        (λ slot. ForSome slot.expiry (λ expiry. result ≤ expiry)) }
-    ensures room { spare slots.old ≤ spare slots.new }
-{
-    // `len` is called for its clause that the keys differ, which the proof cites.
-    let _len = slots.len();
-    slots.retain(
-        |_key: &Brief, slot: &mut Slot| -> bool
-            ensures { (result ≡ is_ahead moment slot.old.expiry) × (slot.new ≡ slot.old) }
-        { is_ahead(slot.expiry, moment) },
-    );
-    least_expiry(slots)
 }

@@ -1,5 +1,5 @@
 use crate::{KeyFault, KeySpace, ValueKind};
-use lr_limits::LAST_MOMENT;
+use lr_limits::{LAST_MOMENT, LONGEST_LEASE};
 use lr_text::Brief;
 use std::alloc::{AllocError, Global};
 use std::test::Fail;
@@ -145,5 +145,62 @@ fn prepared_memory(rt: HostRuntime) -> Result<(), Fail> {
     let served = serves(rt.alloc(), &mut keys, &lock, &owner, &number);
     keys.settle();
     assert!(rt; served && keys.get(&number) == Ok(Some(3)));
+    Ok(())
+}
+
+// Whether a hash of one field takes a second by the memory that was prepared for it, and keeps the
+// order, also once the first is removed and made again.
+fn takes_second(
+    alloc: Global,
+    keys: &mut KeySpace,
+    hash: &Brief,
+    one: &Brief,
+    two: &Brief,
+) -> bool {
+    keys.hincrby(alloc, hash, one, 1) == Ok(1)
+        && keys.hincrby(alloc, hash, two, 2) == Ok(2)
+        && has_fields(alloc, keys, hash, &[(*one, 1), (*two, 2)])
+        && removes(keys, hash, one, true, true)
+        && keys.hincrby(alloc, hash, one, 3) == Ok(3)
+        && has_fields(alloc, keys, hash, &[(*two, 2), (*one, 3)])
+}
+
+#[test]
+fn second_field(rt: HostRuntime) -> Result<(), Fail> {
+    let mut keys = KeySpace::new(rt.alloc())?;
+    let (hash, one, two) = (brief(b"hash"), brief(b"one"), brief(b"two"));
+    keys.prepare(rt.alloc(), &hash, ValueKind::Hash, &two)?;
+    assert!(rt; takes_second(rt.alloc(), &mut keys, &hash, &one, &two));
+    Ok(())
+}
+
+// Makes a key with a field, which expires in so many milliseconds.
+fn make_expiring(
+    alloc: Global,
+    keys: &mut KeySpace,
+    key: &Brief,
+    field: &Brief,
+    millis: u64,
+) -> bool {
+    keys.hincrby(alloc, key, field, 1) == Ok(1) && keys.pexpire(key, millis.clamp(1, LONGEST_LEASE))
+}
+
+// Whether the least expiry is 3, then 5 from moment 3 on, when the second key is gone, and none
+// once the first one is removed.
+fn expire_in_turn(keys: &mut KeySpace, first: &Brief, second: &Brief) -> bool {
+    let before = keys.next_expiry() == Some(3);
+    keys.advance(3);
+    let at_three = keys.next_expiry() == Some(5) && !keys.exists(second);
+    keys.del(first);
+    before && at_three && keys.next_expiry().is_none()
+}
+
+#[test]
+fn next_expiry(rt: HostRuntime) -> Result<(), Fail> {
+    let mut keys = KeySpace::new(rt.alloc())?;
+    let (first, second, field) = (brief(b"k1"), brief(b"k2"), brief(b"f"));
+    let made = make_expiring(rt.alloc(), &mut keys, &first, &field, 5)
+        && make_expiring(rt.alloc(), &mut keys, &second, &field, 3);
+    assert!(rt; made && expire_in_turn(&mut keys, &first, &second));
     Ok(())
 }

@@ -6,24 +6,34 @@ use Rattle.lr_keys.specs.declared.key_space.KeySpace.TheInside.{Inside}
 use Rattle.lr_keys.specs.KeySpace.{IsLive}
 use Rattle.lr_keys.specs.Slots.{new_slot, key_entry_of}
 use Rattle.lr_keys.specs.Table.{with_key}
-use Rattle.lr_keys.proofs.SlotLemmas.{IsKeySpace-grown, IsKeySpace-roomier, IsRoomFor-any, IsLiveSlot-new, entry_at-set, plan_at-same}
+use Rattle.lr_keys.proofs.SlotLemmas.{AreExpiries-pushed, IsKeySpace-grown, IsKeySpace-roomier, IsRoomFor-any, entry_at-set, plan_at-same, slot_absent}
 use Rattle.lr_keys.proofs.key_space.KeySpace.make_key.Goals as goal
 
 pub invariant_of-self : goal.invariant_of-self
-invariant_of-self c = IsKeySpace-roomier c.self.inside
-    (record c.self.inside { slots = c.reserve.new.self }) c.self.invariant refl refl refl
-    c.reserve.ensures.entries c.reserve.ensures.room.0
+invariant_of-self c =
+    let made = c.make_place.ensures in
+    IsKeySpace-roomier c.self.inside
+    (record c.self.inside { slots = c.make_place.new.slots; expiries = c.make_place.new.expiries })
+    c.self.invariant refl refl made.entries made.expiries made.longer made.kept
+
+pub insert_slot-requires-clause-absent : goal.insert_slot-requires-clause-absent
+insert_slot-requires-clause-absent c =
+    ap (lookup (bytes_eq c.args.key.now)) c.make_place.ensures.entries
+    ∙ slot_absent c.self.inside c.args.self.now c.args.key.now c.self.view_is c.requires.absent
 
 -- the fields after the call
 abbrev after : goal.After-insert_slot → Inside
-after c = record c.self.inside { slots = c.insert_slot.new.slots }
+after c = record c.self.inside {
+  slots = c.insert_slot.new.slots;
+  expiries = c.make_place.new.expiries;
+}
 
 sets : (c : goal.After-insert_slot) (q : List ℕ)
     → get bytes_eq (after c).slots q
     ≡ with_key c.args.key.now (Some (new_slot c.args.value)) (get bytes_eq c.self.inside.slots) q
 sets c q = c.insert_slot.ensures.slots q
     ∙ ap (λ es. with_key c.args.key.now (Some (new_slot c.args.value))
-    (λ k. lookup (bytes_eq k) es) q) c.reserve.ensures.entries
+    (λ k. lookup (bytes_eq k) es) q) c.make_place.ensures.entries
 
 pub invariant_of-self-2 : goal.invariant_of-self-2
 invariant_of-self-2 c =
@@ -31,10 +41,13 @@ invariant_of-self-2 c =
     let live = subst (λ (m : ℕ). IsLive m (key_entry_of (new_slot c.args.value)))
     (sym (ap (λ k. k.moment) c.self.view_is)) c.requires.live in
     IsKeySpace-grown inside (after c) c.args.key.now
-    (new_slot c.args.value) false c.self.invariant refl refl (sets c) (λ q. refl)
-    (omega (arith, c.in_ok-reserve.ensures.ok, c.insert_slot.ensures.room))
-    (IsLiveSlot-new inside.moment inside.least_expiry c.args.value live)
-    (λ unspent kind room. IsRoomFor-any (new_slot c.args.value) c.requires.room kind)
+    (new_slot c.args.value) false c.self.invariant refl (sets c) (λ q. refl)
+    (AreExpiries-pushed c.make_place.new.slots.entries c.insert_slot.new.slots.entries
+    c.make_place.new.expiries c.args.key.now c.args.value c.make_place.ensures.expiries
+    c.insert_slot.ensures.entries (omega (arith, c.in_ok-make_place.ensures.places)))
+    (omega (arith, c.in_ok-make_place.ensures.places, c.insert_slot.ensures.len))
+    (omega (arith, c.in_ok-make_place.ensures.room, c.insert_slot.ensures.room))
+    live (λ unspent kind room. IsRoomFor-any (new_slot c.args.value) c.requires.room kind)
 
 pub returns-clause-entry : goal.returns-clause-entry
 returns-clause-entry c =

@@ -6,8 +6,8 @@ use Rattle.lr_keys.proofs.key_space.KeySpace.new.Goals as goal
 abbrev made : goal.In_ok-with_capacity → Inside
 made c = record {
   moment = 0;
-  least_expiry = 18446744073709551615;
   slots = c.new.result;
+  expiries = c.new-2.result;
   spares = c.in_ok-with_capacity.field-0;
 }
 

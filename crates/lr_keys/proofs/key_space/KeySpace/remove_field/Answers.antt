@@ -6,7 +6,7 @@ use Rattle.lr_keys.specs.declared.key_space.KeySpace.TheInside.{Inside}
 use Rattle.lr_keys.specs.declared.slot.Slot.{Slot}
 use Rattle.lr_keys.specs.KeySpace.{entry_without_field}
 use Rattle.lr_keys.specs.Table.{with_key}
-use Rattle.lr_keys.proofs.SlotLemmas.{IsKeySpace-set, IsRoomFor-without_field, IsSome-lent, IsSome-slot, IsLiveSlot-without_field, entry_at-changed, entry_at-read, plan_at-same, sets_then_gone, sets_written, key_entry_of-without_field}
+use Rattle.lr_keys.proofs.SlotLemmas.{AreExpiries-through, IsKeySpace-set, IsRoomFor-without_field, IsSome-lent, IsSome-slot, IsLiveSlot-without_field, entry_at-changed, entry_at-read, plan_at-same, sets_then_gone, sets_written, key_entry_of-without_field}
 use Rattle.lr_keys.proofs.key_space.KeySpace.remove_field.Goals as goal
 
 pub unwrap-slot-requires : goal.unwrap-slot-requires
@@ -17,20 +17,23 @@ unwrap-slot-requires c =
     (IsSome-slot c.args.self.now c.args.key.now c.args.field.now _ shows c.requires)
 
 -- the slot without the field, what the key has then, and the fields after the call
-abbrev slot_without : goal.After-remove_if → Slot
+abbrev slot_without : goal.After-remove_slot_if → Slot
 slot_without c = record c.unwrap-slot.result.now { value = c.remove_field-emptied.new.self }
 
-abbrev left : goal.After-remove_if → Option Slot
+abbrev left : goal.After-remove_slot_if → Option Slot
 left c = if c.remove_field-emptied.result then None else Some (slot_without c)
 
-abbrev after : goal.After-remove_if → Inside
-after c = record c.self.inside { slots = c.remove_if.new.table }
+abbrev after : goal.After-remove_slot_if → Inside
+after c = record c.self.inside {
+  slots = c.remove_slot_if.new.slots;
+  expiries = c.remove_slot_if.new.expiries;
+}
 
-found : (c : goal.After-remove_if)
+found : (c : goal.After-remove_slot_if)
     → Some c.unwrap-slot.result.now ≡ get bytes_eq c.self.inside.slots c.args.key.now
 found c = sym (ap option_copied_mut c.unwrap-slot.ensures) ∙ c.get_mut.ensures.value
 
-sets : (c : goal.After-remove_if) (q : List ℕ)
+sets : (c : goal.After-remove_slot_if) (q : List ℕ)
     → get bytes_eq (after c).slots q
     ≡ with_key c.args.key.now (left c) (get bytes_eq c.self.inside.slots) q
 sets c =
@@ -38,17 +41,27 @@ sets c =
     (slot_without c) (found c) (c.get_mut.follows.holds (slot_without c)) in
     sets_then_gone (get bytes_eq c.self.inside.slots) _
     (get bytes_eq (after c).slots) c.args.key.now
-    (slot_without c) c.remove_field-emptied.result writes c.remove_if.ensures.table
+    (slot_without c) c.remove_field-emptied.result writes c.remove_slot_if.ensures.slots
+
+pub remove_slot_if-requires : goal.remove_slot_if-requires
+remove_slot_if-requires c =
+    let u = c.unwrap-slot.result.now in
+    let w : Slot = record u { value = c.remove_field-emptied.new.self } in
+    let found = sym (ap option_copied_mut c.unwrap-slot.ensures) ∙ c.get_mut.ensures.value in
+    AreExpiries-through c.self.inside (record c.self.inside { slots = c.get_mut.follows.lender w })
+    c.args.key.now u w c.self.invariant refl found (c.get_mut.follows.holds w).0 refl
 
 pub invariant_of-self : goal.invariant_of-self
 invariant_of-self c =
     let inside = c.self.inside in
     let u = c.unwrap-slot.result.now in
     let removed = c.remove_field-emptied.ensures in
-    IsKeySpace-set inside (after c) c.args.key.now (left c) c.self.invariant refl (omega arith) refl
-    (sets c)
-    (omega (arith, (c.get_mut.follows.holds (slot_without c)).6, c.remove_if.ensures.room))
-    (IsLiveSlot-without_field inside.moment inside.least_expiry u _ c.args.field.now _
+    let writes = c.get_mut.follows.holds (slot_without c) in
+    IsKeySpace-set inside (after c) c.args.key.now (left c) c.self.invariant refl refl
+    (sets c) c.remove_slot_if.ensures.expiries
+    (omega (arith, writes.2, c.remove_slot_if.ensures.fewer)) c.remove_slot_if.ensures.places
+    (omega (arith, writes.6, c.remove_slot_if.ensures.room))
+    (IsLiveSlot-without_field inside.moment u _ c.args.field.now _
     (c.self.invariant.slots c.args.key.now u (sym (found c))) removed.empty removed.value)
     (IsRoomFor-without_field _ u (slot_without c) _ (found c) removed.room)
 

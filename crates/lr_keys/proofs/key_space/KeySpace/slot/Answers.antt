@@ -9,5 +9,5 @@ returns-clause-entry c = entry_at-read c.self.inside _ _ _ c.self.view_is c.get.
 
 pub returns-clause-live : goal.returns-clause-live
 returns-clause-live c = λ s at.
-    let live = (c.self.invariant.slots c.args.key.now s (sym c.get.ensures.value ∙ at)).live in
+    let live = (c.self.invariant.slots c.args.key.now s (sym c.get.ensures.value ∙ at)) in
     subst (λ (m : ℕ). IsLive m (key_entry_of s)) (ap (λ k. k.moment) c.self.view_is) live

@@ -7,12 +7,16 @@ use Rattle.lr_keys.specs.declared.value_kind.ValueKind.TheVariants.{Counter as C
 use Rattle.lr_keys.specs.KeySpace.{Number, KeyEntry, entry_at}
 use Rattle.lr_keys.specs.Slots.{new_slot}
 use Rattle.lr_keys.specs.Table.{with_key}
-use Rattle.lr_keys.proofs.SlotLemmas.{IsKeySpace-grown, IsLive-counter, IsSome-planned, IsLiveSlot-new, entry_at-set, plan_at-spent}
+use Rattle.lr_keys.proofs.SlotLemmas.{AreExpiries-pushed, IsKeySpace-grown, IsLive-counter, IsSome-planned, entry_at-set, plan_at-spent, slot_absent}
 use Rattle.lr_keys.proofs.key_space.KeySpace.use_counter.Goals as goal
 
 pub drop_spare-requires : goal.drop_spare-requires
 drop_spare-requires c = IsSome-planned c.self.inside c.args.self.now c.args.key.now [] CounterKind
     c.self.view_is c.requires.prepared
+
+pub insert_slot-requires-clause-absent : goal.insert_slot-requires-clause-absent
+insert_slot-requires-clause-absent c =
+    slot_absent c.self.inside c.args.self.now c.args.key.now c.self.view_is c.requires.absent
 
 -- the slot and the fields after the call
 abbrev slot_after : goal.After-insert_slot → Slot
@@ -25,11 +29,19 @@ pub invariant_of-self : goal.invariant_of-self
 invariant_of-self c =
     let inside = c.self.inside in
     IsKeySpace-grown inside (after c) c.args.key.now
-    (slot_after c) true c.self.invariant refl refl c.insert_slot.ensures.slots
+    (slot_after c) true c.self.invariant refl c.insert_slot.ensures.slots
     c.drop_spare.ensures.spares
+    (AreExpiries-pushed inside.slots.entries c.insert_slot.new.slots.entries inside.expiries
+    c.args.key.now (slot_after c).value c.self.invariant.expiries c.insert_slot.ensures.entries
+    (omega (arith, c.self.invariant.places, c.drop_spare.ensures.fewer)))
+    (omega (
+      arith,
+      c.self.invariant.places,
+      c.drop_spare.ensures.fewer,
+      c.insert_slot.ensures.len,
+    ))
     (omega (arith, c.self.invariant.room, c.drop_spare.ensures.fewer, c.insert_slot.ensures.room))
-    (IsLiveSlot-new inside.moment inside.least_expiry (slot_after c).value
-    (IsLive-counter inside.moment _))
+    (IsLive-counter inside.moment _)
     (λ unspent kind room. absurd (cc unspent))
 
 pub returns-clause-entry : goal.returns-clause-entry

@@ -8,7 +8,7 @@ use Rattle.lr_keys.specs.declared.slot.Slot.{Slot}
 use Rattle.lr_keys.specs.KeySpace.{Number, KeyEntry, entry_with_number, is_there, counter_at}
 use Rattle.lr_keys.specs.Table.{with_key}
 use Rattle.lr_keys.specs.Slots.{IsLiveSlot, content_of}
-use Rattle.lr_keys.proofs.SlotLemmas.{ForSome-some, IsKeySpace-set, IsRoomFor-some, IsSome-lent, IsSome-counter, IsLiveSlot-counter, entry_at-changed, entry_at-read, plan_at-same, sets_written}
+use Rattle.lr_keys.proofs.SlotLemmas.{AreExpiries-through, ForSome-some, IsKeySpace-set, IsRoomFor-some, IsSome-lent, IsSome-counter, IsLiveSlot-counter, entry_at-changed, entry_at-read, plan_at-same, sets_written}
 use Rattle.lr_keys.proofs.key_space.KeySpace.write_counter.Goals as goal
 
 pub unwrap-slot-requires : goal.unwrap-slot-requires
@@ -49,11 +49,13 @@ pub invariant_of-self : goal.invariant_of-self
 invariant_of-self c =
     let inside = c.self.inside in
     let u = c.unwrap-slot.result.now in
+    let writes = c.get_mut.follows.holds (slot_after c) in
     IsKeySpace-set inside (after c) c.args.key.now (Some (slot_after c)) c.self.invariant refl
-    (omega arith) refl (sets c)
-    (omega (arith, (c.get_mut.follows.holds (slot_after c)).6))
-    (ForSome-some (IsLiveSlot inside.moment inside.least_expiry) (slot_after c)
-    (IsLiveSlot-counter inside.moment inside.least_expiry u _ c.args.number (wrote c)
+    refl (sets c) (AreExpiries-through inside (after c) c.args.key.now u (slot_after c)
+    c.self.invariant refl (found c) writes.0 refl)
+    (omega (arith, writes.2)) refl (omega (arith, writes.6))
+    (ForSome-some (IsLiveSlot inside.moment) (slot_after c)
+    (IsLiveSlot-counter inside.moment u _ c.args.number (wrote c)
     (c.self.invariant.slots c.args.key.now u (sym (found c)))))
     (IsRoomFor-some _ u (slot_after c) (found c) (λ room. c.write_counter.ensures.room))
 

@@ -8,7 +8,7 @@ use Rattle.lr_keys.specs.declared.slot.Slot.{Slot}
 use Rattle.lr_keys.specs.KeySpace.{KeyEntry, content_with_field, entry_with_field, is_there, field_at}
 use Rattle.lr_keys.specs.Table.{with_key}
 use Rattle.lr_keys.specs.Slots.{IsLiveSlot, key_entry_of, content_of}
-use Rattle.lr_keys.proofs.SlotLemmas.{ForSome-some, IsKeySpace-set, IsRoomFor-some, IsSome-lent, IsSome-slot, IsLiveSlot-with_field, entry_at-changed, entry_at-read, few_there, plan_at-same, sets_written}
+use Rattle.lr_keys.proofs.SlotLemmas.{AreExpiries-through, ForSome-some, IsKeySpace-set, IsRoomFor-some, IsSome-lent, IsSome-slot, IsLiveSlot-with_field, entry_at-changed, entry_at-read, few_there, plan_at-same, sets_written}
 use Rattle.lr_keys.proofs.key_space.KeySpace.write_field.Goals as goal
 
 -- the slot and the fields after the call
@@ -65,13 +65,15 @@ invariant_of-self c =
     let inside = c.self.inside in
     let u = c.unwrap-slot.result.now in
     let sound = c.self.invariant.slots c.args.key.now u (sym (found c)) in
+    let writes = c.get_mut.follows.holds (slot_after c) in
     IsKeySpace-set inside (after c) c.args.key.now (Some (slot_after c)) c.self.invariant refl
-    (omega arith) refl (sets c)
-    (omega (arith, (c.get_mut.follows.holds (slot_after c)).6))
-    (ForSome-some (IsLiveSlot inside.moment inside.least_expiry) (slot_after c)
-    (IsLiveSlot-with_field inside.moment inside.least_expiry u c.write_field.new.self
+    refl (sets c) (AreExpiries-through inside (after c) c.args.key.now u (slot_after c)
+    c.self.invariant refl (found c) writes.0 refl)
+    (omega (arith, writes.2)) refl (omega (arith, writes.6))
+    (ForSome-some (IsLiveSlot inside.moment) (slot_after c)
+    (IsLiveSlot-with_field inside.moment u c.write_field.new.self
     c.args.field.now c.args.number sound (wrote c)
-    (few_there inside.moment u c.args.field.now c.args.number sound.live (there c))))
+    (few_there inside.moment u c.args.field.now c.args.number sound (there c))))
     (IsRoomFor-some _ u (slot_after c) (found c) c.write_field.ensures.room)
 
 pub returns-clause-entry : goal.returns-clause-entry
