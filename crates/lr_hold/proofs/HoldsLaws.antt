@@ -1,5 +1,5 @@
 -- For which holds the keys of a part stand: laws for the crates above.
-use Rattle.std.proofs.Common.{◌≡◌, ◌≤◌, ◌<◌, ◌==◌, ℕ, nat_lt, Bool, true, false, List, [], ◌∷◌, Option, Some, None, option_map, if◌then◌else◌, refl, ap, sym, subst, ◌∙◌, arith}
+use Rattle.std.proofs.Common.{◌≡◌, ◌≤◌, ◌<◌, ◌==◌, ℕ, nat_lt, Bool, true, false, List, Option, Some, None, option_map, if◌then◌else◌, refl, ap, sym, subst, ◌∙◌, arith}
 use Rattle.std.specs.Option.{ForSome}
 use Rattle.std.specs.Str.{bytes_eq}
 use Rattle.std.proofs.lemmas.Bool.Decides.{nat_tests}
@@ -7,10 +7,10 @@ use Rattle.lr_limits.specs.Limits.{last_moment, never}
 use Rattle.lr_names.specs.Key.{key_text}
 use Rattle.lr_names.specs.Name.{IsName}
 use Rattle.lr_names.specs.declared.part.Part.{Part}
-use Rattle.lr_names.proofs.KeyLaws.{key_text-injective}
-use Rattle.lr_keys.specs.KeySpace.{KeyEntry, Keys, OthersAreLive, entry_at, is_ahead, live_entry, live_entries}
-use Rattle.lr_keys.proofs.FrameLaws.{list_any-head}
-use Rattle.lr_keys.proofs.TableLaws.{bytes_eq-same, same_bytes, bytes_eq-other}
+use Rattle.lr_names.proofs.KeyLaws.{keys_differ}
+use Rattle.lr_keys.specs.KeySpace.{Keys, ChangesOnly, entry_at, is_ahead, live_entry, live_entries}
+use Rattle.lr_keys.proofs.FrameLaws.{at_key, live_stays}
+use Rattle.lr_keys.proofs.TableLaws.{same_bytes}
 use Rattle.lr_objects.specs.declared.reply.Reply.{Reply}
 use Rattle.lr_model.specs.declared.hold.Hold.{Hold}
 use Rattle.lr_model.specs.Hold.{live_hold}
@@ -18,7 +18,7 @@ use Rattle.lr_model.specs.Outcome.{Outcome}
 use Rattle.lr_model.specs.Table.{put}
 use Rattle.lr_model.proofs.Tables.{one_table}
 use Rattle.lr_hold.specs.Holds.{IsHold, HoldsStand, expiry_of, hold_entry}
-use Rattle.lr_hold.specs.Step.{ChangesOnly, IsLiveHold, IsHeld, IsHoldStep}
+use Rattle.lr_hold.specs.Step.{IsLiveHold, IsHeld, IsHoldStep}
 
 -- a key lies ahead as long as its hold is live: at each moment that a clock shows
 is_ahead-expiry_of : (moment deadline : ℕ) → moment ≤ last_moment
@@ -83,10 +83,6 @@ put-own holds name =
     by : (q : List ℕ) (b : Bool) → bytes_eq name q ≡ b → (if b then holds name else holds q) ≡ holds q
     by q true same = ap holds (same_bytes name q same)
     by q false other = refl
-
--- what one key of equal tables has
-at_key : (f g : List ℕ → Option KeyEntry) → f ≡ g → (key : List ℕ) → f key ≡ g key
-at_key f g same key = ap (λ (t : List ℕ → Option KeyEntry). t key) same
 
 -- where there is no key nothing is held
 pub no_holds_stand : (part : Part) (keys : Keys) → entry_at keys ≡ (λ _. None)
@@ -168,30 +164,10 @@ module _ (part : Part) (old : Keys) (holds : List ℕ → Option Hold) (stand : 
         bound q h true at = within h at
         bound q h false at = stand.bounds q h at
 
--- the keys of two names are two
-bytes_eq-key_text : (part : Part) (name q : List ℕ) → bytes_eq name q ≡ false
-    → bytes_eq (key_text part name) (key_text part q) ≡ false
-bytes_eq-key_text part name q other =
-    bytes_eq-other (key_text part name) (key_text part q) (λ same.
-    let one = (key_text-injective part part name q same).1 in
-    absurd (cc (sym other ∙ ap (bytes_eq name) (sym one) ∙ bytes_eq-same name)))
-
 -- A step at one key, once the moment has come: from the keys before both to those after both.
 module _ (old middle new : Keys) (moment : ℕ) (passed : middle.moment ≡ moment)
     (left : entry_at middle ≡ live_entries moment (entry_at old)) (now : new.moment ≡ middle.moment) where
-  -- a key that stayed as it was holds what is live of it
-  live_stays : (q : List ℕ) → entry_at new q ≡ entry_at middle q
-      → entry_at new q ≡ live_entry new.moment (entry_at old q)
-  live_stays q same =
-      same ∙ at_key (entry_at middle) (live_entries moment (entry_at old)) left q
-      ∙ ap (λ m. live_entry m (entry_at old q)) (sym (now ∙ passed))
-
-  -- all other keys hold what is live of them
-  pub others_are_live : (key : List ℕ) → ChangesOnly key middle new → OthersAreLive (key ∷ []) old new
-  others_are_live key others = λ q apart.
-      live_stays q (others q (bytes_eq-other key q (list_any-head q key [] apart)))
-
-  -- and the keys of a part stand for the holds with that of the outcome
+  -- The keys of a part stand for the holds with that of the outcome.
   pub holds_stand_after : (part : Part) (name : List ℕ) (reply : Reply) (outcome : Outcome (Option Hold))
       → ChangesOnly (key_text part name) middle new
       → IsHoldStep new (key_text part name) reply outcome
@@ -204,4 +180,5 @@ module _ (old middle new : Keys) (moment : ℕ) (passed : middle.moment ≡ mome
       name outcome.object step.held.hold.within
       (step.held.stands ∙ ap (option_map hold_entry) (sym stays))
       (λ q in_names other.
-      live_stays (key_text part q) (others (key_text part q) (bytes_eq-key_text part name q other)))
+      live_stays old middle new moment passed left now (key_text part q)
+      (others (key_text part q) (keys_differ part part name q (λ _. other))))

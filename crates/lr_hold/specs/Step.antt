@@ -1,7 +1,6 @@
 -- What a step does to the key of one hold, at the moment of the keys.
 use Rattle.std.specs.Prelude.{◌≡◌, ◌<◌, ℕ, ℤ, List, [], ◌∷◌, Bool, true, false, Option, Some, None, option_map, if◌then◌else◌}
 use Rattle.std.specs.Option.{ForSome}
-use Rattle.std.specs.Str.{bytes_eq}
 use Rattle.lr_names.specs.Owner.{ThreadOfClient, same_owner}
 use Rattle.lr_keys.specs.KeySpace.{Fields, KeyEntry, Keys, entry_at}
 use Rattle.lr_objects.specs.declared.reply.Reply.{Reply}
@@ -25,10 +24,6 @@ pub record IsHoldStep (new : Keys) (key : List ℕ) (reply : Reply)
     (outcome : Outcome (Option Hold)) : Type 0 where
   pub answer : reply ≡ outcome.reply
   pub held : IsHeld new.moment (entry_at new key) outcome.object
-
--- of the keys no other than this one changes
-abbrev pub ChangesOnly : List ℕ → Keys → Keys → Type 0
-ChangesOnly key old new = (q : List ℕ) → bytes_eq key q ≡ false → entry_at new q ≡ entry_at old q
 
 -- how many times an owner holds what is held so
 abbrev pub hold_count : ThreadOfClient → Option Hold → ℕ

@@ -1,14 +1,14 @@
 //! The steps on what is held under a key, at the moment of the keys.
 ghost use Rattle.std.specs.Prelude.{◌≡◌, ◌+◌, ℕ, ℤ, ◌+ℤ◌, Option, None, Some, IsTrue};
 ghost use Rattle.lr_keys.specs.FieldMap.{is_i64};
-ghost use Rattle.lr_keys.specs.KeySpace.{IsPrepared, entry_at};
+ghost use Rattle.lr_keys.specs.KeySpace.{ChangesOnly, IsPrepared, entry_at};
 ghost use Rattle.lr_keys.specs.Table.{with_key};
 ghost use Rattle.lr_model.specs.declared.hold.Hold.{Hold};
 ghost use Rattle.lr_model.specs.Hold.{take_hold, give_back_hold, renew_hold, end_hold};
 ghost use Rattle.lr_model.specs.Moment.{is_lease};
 ghost use Rattle.lr_names.specs.Owner.{owner_text};
 ghost use Rattle.lr_names.specs.declared.post.Post.{Post};
-ghost use Rattle.lr_hold.specs.Step.{ChangesOnly, IsHeld, IsHoldStep, one_field};
+ghost use Rattle.lr_hold.specs.Step.{IsHeld, IsHoldStep, one_field};
 
 use crate::hold::{hold_count, remaining};
 use lr_keys::{KeySpace, ValueKind};
