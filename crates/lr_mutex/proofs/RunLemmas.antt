@@ -4,8 +4,8 @@ use Rattle.lr_names.specs.Key.{key_text}
 use Rattle.lr_names.specs.Name.{IsName}
 use Rattle.lr_names.specs.declared.kind.Kind.TheVariants.{Mutex}
 use Rattle.lr_names.specs.declared.part.Part.TheVariants.{Lock}
-use Rattle.lr_keys.specs.KeySpace.{KeyEntry, Keys, entry_at, live_entries}
-use Rattle.lr_keys.proofs.FrameLaws.{OthersAreLive-live}
+use Rattle.lr_keys.specs.KeySpace.{ChangesOnly, KeyEntry, Keys, entry_at, live_entries}
+use Rattle.lr_keys.proofs.FrameLaws.{OthersAreLive-live, others_are_live}
 use Rattle.lr_limits.specs.Limits.{last_moment}
 use Rattle.lr_objects.specs.Op.{kind_of, name_of}
 use Rattle.lr_objects.specs.declared.op.Op.{Op}
@@ -18,8 +18,8 @@ use Rattle.lr_model.specs.Hold.{live_hold, take_hold, give_back_hold, renew_hold
 use Rattle.lr_model.specs.Moment.{is_lease}
 use Rattle.lr_model.specs.Mutex.{lock_post}
 use Rattle.lr_model.specs.Outcome.{Outcome, silent_outcome}
-use Rattle.lr_hold.specs.Step.{ChangesOnly, IsHeld, IsHoldStep, is_freed}
-use Rattle.lr_hold.proofs.HoldsLaws.{held_at, holds_stand_after, holds_stand_still, others_are_live}
+use Rattle.lr_hold.specs.Step.{IsHeld, IsHoldStep, is_freed}
+use Rattle.lr_hold.proofs.HoldsLaws.{held_at, holds_stand_after, holds_stand_still}
 use Rattle.lr_hold.proofs.PostLaws.{sends-take_hold, sends-give_back_hold, sends-renew_hold, sends-end_hold, sends-with_lease}
 use Rattle.lr_mutex.specs.Run.{IsRun}
 use Rattle.lr_mutex.specs.Stands.{MutexesStand}
@@ -136,6 +136,7 @@ post-freed objects moment (LockRenew name owner lease) kind =
     (sends-renew_hold post moment owner lease live)
 post-freed objects moment (LockForce name) kind =
     sends-end_hold (Some (lock_post name)) (live_hold moment (objects.mutexes name))
+post-freed objects moment _ kind = absurd (cc kind)
 
 -- the message by the reply and the name
 pub post_of-reply : (objects : Objects) (moment : ℕ) (op : Op) → kind_of op ≡ Mutex

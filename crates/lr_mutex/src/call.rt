@@ -18,6 +18,7 @@ use std::alloc::{AllocError, Global};
 
 // The reply of a function, with its change of the keys.
 fn answer(alloc: Global, keys: &mut KeySpace, moment: u64, op: &Op) -> Result<Reply, AllocError>
+    requires kind { kind_of op.now ≡ Kind.Mutex }
     requires call { IsCall op.now }
     requires early { moment ≤ last_moment }
     ensures run { let m = max keys.old.moment moment in IfOk result (λ reply.
@@ -34,6 +35,7 @@ fn answer(alloc: Global, keys: &mut KeySpace, moment: u64, op: &Op) -> Result<Re
         }
         Op::LockRenew { name, owner, lease } => Ok(lock_renew(keys, moment, name, owner, *lease)),
         Op::LockForce { name } => Ok(lock_force(keys, moment, name)),
+        _ => unreachable!(),
     }
 }
 

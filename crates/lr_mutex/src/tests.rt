@@ -1,7 +1,7 @@
 use crate::run;
 use lr_keys::KeySpace;
 use lr_limits::{LAST_MOMENT, LONGEST_LEASE, NEVER};
-use lr_names::{Name, Owner, Part, key};
+use lr_names::{Kind, Name, Owner, Part, key};
 use lr_objects::{Op, Remaining, Reply};
 use lr_text::Brief;
 use std::alloc::Global;
@@ -45,6 +45,9 @@ fn busy(millis: u64) -> Reply {
 
 // Whether a call at the moment is answered so, and sends a message exactly where the lock comes free.
 fn answers(alloc: Global, keys: &mut KeySpace, moment: u64, op: &Op, wanted: &Reply) -> bool {
+    if !matches!(op.kind(), Kind::Mutex) {
+        return false;
+    }
     match run(alloc, keys, moment.min(LAST_MOMENT), op) {
         Ok((reply, post)) => reply == *wanted && post.is_some() == (reply == Reply::Freed),
         Err(_) => false,

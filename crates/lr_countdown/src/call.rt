@@ -1,0 +1,116 @@
+//! The call of a function of a countdown latch.
+ghost use Rattle.std.specs.Prelude.{◌≡◌, ◌≤◌, ℕ, [], Option, None, max, false, IsTrue, IsOk, IfOk, OnOk, OnErr};
+ghost use Rattle.lr_names.specs.Key.{key_text, keys_of};
+ghost use Rattle.lr_keys.specs.KeySpace.{ChangesOnly, IsPrepared, OthersAreLive, StaysSame, entry_at, live_entry, plan_at};
+ghost use Rattle.lr_limits.specs.Limits.{amount_limit, last_moment};
+ghost use Rattle.lr_model.specs.Answer.{Objects, answer, reply_of, objects_after, post_of};
+ghost use Rattle.lr_objects.specs.Op.{IsCall, kind_of, name_of};
+ghost use Rattle.lr_counter.specs.Numbers.{IsNumberAt, number_entry_of, some_unless_zero};
+ghost use Rattle.lr_counter.specs.Run.{IsNumberRun};
+ghost use Rattle.lr_counter.specs.Step.{IsNumberStep};
+ghost use Rattle.lr_countdown.specs.Run.{makes_key, outcome_of};
+ghost use Rattle.lr_countdown.specs.Stands.{CountdownsStand};
+
+use crate::functions::{latch_count, latch_down, latch_set};
+use lr_counter::make_room;
+use lr_keys::{KeySpace, ValueKind};
+use lr_names::{Kind, Name, Part, Post, key};
+use lr_objects::{Op, Reply};
+use lr_text::Brief;
+use std::alloc::{AllocError, Global};
+
+// Takes the memory of the key, for a call that makes it where it isn't there.
+fn take_memory(alloc: Global, keys: &mut KeySpace, key: &Brief, op: &Op) -> Result<(), AllocError>
+    ensures room { OnOk result (IsTrue (makes_key op.now (entry_at keys.old key.now))
+        → IsPrepared keys.new key.now ValueKind.Counter []) }
+    ensures stays { StaysSame keys.old keys.new }
+    ensures succeeds { (moment : ℕ)
+        → makes_key op.now (live_entry moment (entry_at keys.old key.now)) ≡ false → IsOk result }
+    ensures err { OnErr result (keys.new ≡ keys.old) }
+{
+    match op {
+        Op::LatchSet { .. } => make_room(alloc, keys, key),
+        _ => Ok(()),
+    }
+}
+
+// The step of a function on the number, at the moment of the keys.
+fn step(keys: &mut KeySpace, key: &Brief, op: &Op) -> (Reply, Option<Post>)
+    requires { kind_of op.now ≡ Kind.Countdown }
+    ensures step { (count : ℕ)
+        → IsNumberAt amount_limit (entry_at keys.old key.now) (some_unless_zero count)
+        → (IsTrue (makes_key op.now (number_entry_of (some_unless_zero count)))
+        → IsPrepared keys.old key.now ValueKind.Counter [])
+        → IsNumberStep some_unless_zero amount_limit keys.new key.now result
+        (outcome_of op.now count) }
+    ensures others { ChangesOnly key.now keys.old keys.new }
+    ensures moment { keys.new.moment ≡ keys.old.moment }
+{
+    match op {
+        Op::LatchSet { number, .. } => latch_set(keys, key, number),
+        Op::LatchDown { name } => latch_down(keys, key, name),
+        Op::LatchCount { .. } => latch_count(keys, key),
+        _ => unreachable!(),
+    }
+}
+
+// The answer of a function at a moment, with its change of the keys.
+fn answer(
+    alloc: Global,
+    keys: &mut KeySpace,
+    moment: u64,
+    op: &Op,
+) -> Result<(Reply, Option<Post>), AllocError>
+    requires kind { kind_of op.now ≡ Kind.Countdown }
+    requires early { moment ≤ last_moment }
+    ensures run { let m = max keys.old.moment moment in IfOk result (λ r.
+        IsNumberRun CountdownsStand keys.old keys.new m
+        (key_text Part.Countdown (name_of op.now)) r (λ objects. answer objects m op.now)) }
+    ensures succeeds { let m = max keys.old.moment moment in
+        let key = key_text Part.Countdown (name_of op.now) in
+        makes_key op.now (live_entry m (entry_at keys.old key)) ≡ false → IsOk result }
+    ensures err { OnErr result (keys.new ≡ keys.old) }
+{
+    let key = key(Part::Countdown, op.name());
+    take_memory(alloc, keys, &key, op)?;
+    keys.advance(moment);
+    Ok(step(keys, &key, op))
+}
+
+/// Runs a function of a countdown latch, as one step at a moment in milliseconds, or at that of the
+/// keys where that is later.
+///
+/// Where the keys stand for the latches of some objects, the reply and the message are what the
+/// function gives for these, and afterwards the keys stand for what it makes of them. All keys of
+/// other objects hold what is live of them. Memory that was prepared is given up.
+///
+/// Only a call that sets a latch at 0 takes memory. After an error nothing has changed: the moment
+/// and the keys are as before.
+pub fn run(
+    alloc: Global,
+    keys: &mut KeySpace,
+    moment: u64,
+    op: &Op,
+) -> Result<(Reply, Option<Post>), AllocError>
+    requires kind { kind_of op.now ≡ Kind.Countdown }
+    requires early { moment ≤ last_moment }
+    ensures reply { let m = max keys.old.moment moment in IfOk result (λ r.
+        (objects : Objects) → CountdownsStand keys.old objects → r.0 ≡ reply_of objects m op.now) }
+    ensures post { let m = max keys.old.moment moment in IfOk result (λ r.
+        (objects : Objects) → CountdownsStand keys.old objects → r.1 ≡ post_of objects m op.now) }
+    ensures stands { let m = max keys.old.moment moment in
+        OnOk result ((objects : Objects) → CountdownsStand keys.old objects
+        → CountdownsStand keys.new (objects_after objects m op.now)) }
+    ensures frame { OnOk result
+        (OthersAreLive (keys_of Kind.Countdown (name_of op.now)) keys.old keys.new) }
+    ensures moment { OnOk result (keys.new.moment ≡ max keys.old.moment moment) }
+    ensures settled { OnOk result (plan_at keys.new ≡ (λ _. None)) }
+    ensures succeeds { let m = max keys.old.moment moment in
+        let key = key_text Part.Countdown (name_of op.now) in
+        makes_key op.now (live_entry m (entry_at keys.old key)) ≡ false → IsOk result }
+    ensures err { OnErr result (keys.new ≡ keys.old) }
+{
+    let answer = answer(alloc, keys, moment, op)?;
+    keys.settle();
+    Ok(answer)
+}
