@@ -7,7 +7,7 @@ use Rattle.lr_model.specs.declared.entry.Act.{Act}
 use Rattle.lr_model.specs.declared.entry.Act.TheVariants.{Call}
 use Rattle.lr_model.specs.declared.entry.Entry.{Entry}
 use Rattle.lr_model.specs.Answer.{Objects, no_objects, reply_of, objects_after}
-use Rattle.lr_model.specs.History.{State, step, after, IsLegal, objects_by}
+use Rattle.lr_model.specs.History.{State, state_at_start, step, after, IsLegal, objects_by}
 use Rattle.lr_model.specs.Tenure.{HoldMode, Claim, Tenure, conflicts, is_current, no_tenure, tenure_by_call, tenure_by_act, tenure_after}
 use Rattle.lr_laws.proofs.Claims.{claim_on}
 
@@ -46,7 +46,7 @@ module _ (claim : Claim) (Backs : ℕ → Tenure → Objects → Type 0) (kept :
       kept.by_time state.moment moment tenure state.objects later backs
 
   -- so a legal history keeps it
-  pub by_history : (entries : List Entry) (state : State) (tenure : Tenure)
+  by_history : (entries : List Entry) (state : State) (tenure : Tenure)
       → IsLegal state entries → Backs state.moment tenure state.objects
       → Backs (after state entries).moment (tenure_after claim state entries tenure)
       (after state entries).objects
@@ -55,3 +55,12 @@ module _ (claim : Claim) (Backs : ℕ → Tenure → Objects → Type 0) (kept :
       by_history entries (step state entry)
       (tenure_by_act claim state entry.moment entry.act tenure) legal.1
       (by_act state entry.moment entry.act tenure legal.0.in_time backs)
+
+  -- and what is backed from the start on is backed behind it, at its last moment or later
+  pub backed_after : (last : ℕ) (entries : List Entry) → IsLegal (state_at_start last) entries
+      → (moment : ℕ) → (after (state_at_start last) entries).moment ≤ moment
+      → Backs moment (tenure_after claim (state_at_start last) entries no_tenure)
+      (after (state_at_start last) entries).objects
+  backed_after last entries legal moment later =
+      kept.by_time _ moment _ _ later
+      (by_history entries (state_at_start last) no_tenure legal kept.at_start)

@@ -3,20 +3,22 @@ use Rattle.std.proofs.Common.{◌≡◌, ℕ, ◌≤◌, List, true, false, refl
 use Rattle.std.proofs.lemmas.Bool.{false_from_ne_true}
 use Rattle.lr_names.specs.Owner.{ThreadOfClient}
 use Rattle.lr_names.specs.declared.kind.Kind.{Kind}
-use Rattle.lr_names.specs.declared.kind.Kind.TheVariants.{Mutex}
+use Rattle.lr_names.specs.declared.kind.Kind.TheVariants.{Mutex, Fenced}
 use Rattle.lr_objects.specs.declared.op.Op.TheVariants.{LockTry}
 use Rattle.lr_model.specs.declared.entry.Entry.{Entry}
 use Rattle.lr_model.specs.History.{State, state_at_start, after, IsLegal}
 use Rattle.lr_model.specs.Tenure.{HoldMode, Claim, conflicts, concerns, no_tenure, tenure_after, holds_at, NoConflict}
 use Rattle.lr_laws.proofs.Claims.{claim_on, on_one_object}
-use Rattle.lr_laws.proofs.ClaimLaws.{ClaimLaw, by_history}
+use Rattle.lr_laws.proofs.ClaimLaws.{ClaimLaw, backed_after}
 use Rattle.lr_laws.proofs.Mutexes.{mutex_law}
+use Rattle.lr_laws.proofs.FencedLocks.{fenced_law}
 use Rattle.lr_laws.proofs.UnclaimedKinds.{unclaimed_law}
 
 -- The law of each kind: a line for each, and the last for those on whose objects no call takes a
 -- claim. A kind whose calls do gets its line above that, and a file of its own.
 law_of : (kind : Kind) → ClaimLaw kind
 law_of Mutex = mutex_law
+law_of Fenced = fenced_law
 law_of kind =
     unclaimed_law kind
     (λ name mode owner op. elim op as (λ o. concerns o (claim_on kind name mode owner) ≡ false)
@@ -34,11 +36,8 @@ module _ (last : ℕ) (entries : List Entry) (legal : IsLegal (state_at_start la
       (after first entries).objects
   backed kind name mode owner moment later =
       let law : ClaimLaw kind = law_of kind in
-      let claim : Claim = claim_on kind name mode owner in
-      let kept = law.kept name mode owner in
-      kept.by_time _ moment _ _ later
-      (by_history claim (law.Backs name mode owner) kept entries first no_tenure legal
-      kept.at_start)
+      backed_after (claim_on kind name mode owner) (law.Backs name mode owner)
+      (law.kept name mode owner) last entries legal moment later
 
   -- so of two claims that conflict not both are held
   apart : (a b : Claim) (moment : ℕ) → (after first entries).moment ≤ moment

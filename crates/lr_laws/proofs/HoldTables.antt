@@ -1,9 +1,8 @@
 -- Objects in a table by their names, each with the hold of one owner, which is exclusive: what a
 -- call on one of them leaves of the tenure of a claim.
-use Rattle.std.proofs.Common.{◌≡◌, ℕ, ◌≤◌, List, Bool, true, false, ◌&&◌, ◌||◌, Option, if◌then◌else◌, refl, sym, ap, ◌∙◌, subst}
+use Rattle.std.proofs.Common.{◌≡◌, ℕ, ◌≤◌, List, Bool, true, false, ◌&&◌, ◌||◌, Option, None, if◌then◌else◌, refl, sym, ap, ◌∙◌, subst}
 use Rattle.std.specs.Str.{bytes_eq}
 use Rattle.std.proofs.lemmas.Bool.{false≢true}
-use Rattle.std.proofs.lemmas.Bool.Decides.{same_from_decides, Decides-like}
 use Rattle.std.proofs.lemmas.Slice.Eq.{bytes_eq-Decides}
 use Rattle.lr_names.specs.Owner.{ThreadOfClient, same_owner}
 use Rattle.lr_model.specs.declared.hold.Hold.{Hold}
@@ -11,18 +10,20 @@ use Rattle.lr_model.specs.Outcome.{Outcome}
 use Rattle.lr_model.specs.Table.{put}
 use Rattle.lr_model.specs.Tenure.{HoldMode, Exclusive, Shared, Tenure, is_current, no_tenure, same_mode, tenure_by_reply}
 use Rattle.lr_laws.proofs.Owners.{same_owner-Decides}
-use Rattle.lr_laws.proofs.Holds.{HasHoldWhileCurrent, KeepsHolds, EndsHolds, held_later, without_tenure, one_owner}
+use Rattle.lr_laws.proofs.NameTables.{bytes_eq-sym}
+use Rattle.lr_laws.proofs.Holds.{HoldsAsTold, held_later, without_tenure, one_owner}
+use Rattle.lr_laws.proofs.HoldSteps.{KeepsHolds, EndsHolds}
 
 -- an exclusive claim is held as the hold says, and nobody has a claim in another mode
 abbrev pub BacksAlone : HoldMode → ThreadOfClient → ℕ → Tenure → Option Hold → Type 0
-BacksAlone Exclusive owner moment tenure held = HasHoldWhileCurrent owner moment tenure held
+BacksAlone Exclusive owner moment tenure held = HoldsAsTold owner moment tenure held
 BacksAlone Shared owner moment tenure held = tenure ≡ no_tenure
 
 -- before the first call
-pub alone_at_start : (mode : HoldMode) (owner : ThreadOfClient) (moment : ℕ) (held : Option Hold)
-    → BacksAlone mode owner moment no_tenure held
-alone_at_start Exclusive owner moment held = without_tenure owner moment held
-alone_at_start Shared owner moment held = refl
+pub alone_at_start : (mode : HoldMode) (owner : ThreadOfClient) (moment : ℕ)
+    → BacksAlone mode owner moment no_tenure None
+alone_at_start Exclusive owner moment = without_tenure owner moment
+alone_at_start Shared owner moment = refl
 
 -- time passes
 pub alone_later : (mode : HoldMode) (owner : ThreadOfClient) (m n : ℕ) (tenure : Tenure)
@@ -41,11 +42,6 @@ alone_apart Exclusive Shared o p moment t u held apart first none of_first of_se
     false≢true (sym (ap (λ (x : Tenure). is_current x moment) none) ∙ of_second)
 alone_apart Shared n o p moment t u held apart none second of_first of_second =
     false≢true (sym (ap (λ (x : Tenure). is_current x moment) none) ∙ of_first)
-
-bytes_eq-sym : (a b : List ℕ) → bytes_eq a b ≡ bytes_eq b a
-bytes_eq-sym a b =
-    same_from_decides (bytes_eq a b) (bytes_eq b a) (bytes_eq-Decides a b)
-    (Decides-like (bytes_eq b a) sym sym (bytes_eq-Decides b a))
 
 or_false : (b : Bool) → (b || false) ≡ b
 or_false true = refl
@@ -78,27 +74,27 @@ module _ {X : Type 0} (hold_in : X → Option Hold) (table : List ℕ → X) (na
 
     -- on the claim's object
     here_by_owner : (mine : Bool) → same_owner owner caller ≡ mine
-        → HasHoldWhileCurrent owner moment tenure (hold_in (table key))
-        → HasHoldWhileCurrent owner moment (tenure_after_call mine) (hold_in outcome.object)
+        → HoldsAsTold owner moment tenure (hold_in (table key))
+        → HoldsAsTold owner moment (tenure_after_call mine) (hold_in outcome.object)
     here_by_owner true mine backs =
         let same : owner ≡ caller = (same_owner-Decides owner caller).0 mine in
         let own = keeps.own tenure
-        (subst (λ o. HasHoldWhileCurrent o moment tenure (hold_in (table key))) same backs) in
-        subst (λ o. HasHoldWhileCurrent o moment (tenure_after_call true) (hold_in outcome.object))
+        (subst (λ o. HoldsAsTold o moment tenure (hold_in (table key))) same backs) in
+        subst (λ o. HoldsAsTold o moment (tenure_after_call true) (hold_in outcome.object))
         (sym same) own
     here_by_owner false other backs = keeps.others owner tenure other backs
 
     -- on it, or on another
     exclusive_by_owner : (here : Bool) → bytes_eq name key ≡ here
-        → HasHoldWhileCurrent owner moment tenure (hold_in (table name))
-        → HasHoldWhileCurrent owner moment
+        → HoldsAsTold owner moment tenure (hold_in (table name))
+        → HoldsAsTold owner moment
         (tenure_after_call (((here && true) && same_owner owner caller) || false)) (held_after here)
     exclusive_by_owner false there backs = backs
     exclusive_by_owner true here backs =
-        subst (λ b. HasHoldWhileCurrent owner moment (tenure_after_call b) (held_after true))
+        subst (λ b. HoldsAsTold owner moment (tenure_after_call b) (held_after true))
         (sym (or_false (same_owner owner caller)))
         (here_by_owner (same_owner owner caller) refl
-        (subst (HasHoldWhileCurrent owner moment tenure) (same_hold here) backs))
+        (subst (HoldsAsTold owner moment tenure) (same_hold here) backs))
 
     -- a claim that isn't exclusive concerns no call
     shared_by_owner : (here : Bool) → tenure ≡ no_tenure
@@ -115,7 +111,7 @@ module _ {X : Type 0} (hold_in : X → Option Hold) (table : List ℕ → X) (na
         (hold_in (put bytes_eq table key outcome.object name))
     alone_by_owner Exclusive backs =
         by_other_test
-        (HasHoldWhileCurrent owner moment
+        (HoldsAsTold owner moment
         (tenure_after_call (((bytes_eq name key && true) && same_owner owner caller) || false)))
         (exclusive_by_owner (bytes_eq name key) refl backs)
     alone_by_owner Shared none = shared_by_owner (bytes_eq name key) none
@@ -128,12 +124,12 @@ module _ {X : Type 0} (hold_in : X → Option Hold) (table : List ℕ → X) (na
         if here then tenure_by_reply moment 0 outcome.reply tenure else tenure
 
     exclusive_by_operator : (here : Bool) → bytes_eq name key ≡ here
-        → HasHoldWhileCurrent owner moment tenure (hold_in (table name))
-        → HasHoldWhileCurrent owner moment (tenure_after_end here) (held_after here)
+        → HoldsAsTold owner moment tenure (hold_in (table name))
+        → HoldsAsTold owner moment (tenure_after_end here) (held_after here)
     exclusive_by_operator false there backs = backs
     exclusive_by_operator true here backs =
         ends.all owner tenure
-        (subst (HasHoldWhileCurrent owner moment tenure) (same_hold here) backs)
+        (subst (HoldsAsTold owner moment tenure) (same_hold here) backs)
 
     shared_by_operator : (here : Bool) → tenure ≡ no_tenure → tenure_after_end here ≡ no_tenure
     shared_by_operator true none =
@@ -147,6 +143,6 @@ module _ {X : Type 0} (hold_in : X → Option Hold) (table : List ℕ → X) (na
         (hold_in (put bytes_eq table key outcome.object name))
     alone_by_operator Exclusive backs =
         by_other_test
-        (HasHoldWhileCurrent owner moment (tenure_after_end (bytes_eq name key)))
+        (HoldsAsTold owner moment (tenure_after_end (bytes_eq name key)))
         (exclusive_by_operator (bytes_eq name key) refl backs)
     alone_by_operator Shared none = shared_by_operator (bytes_eq name key) none

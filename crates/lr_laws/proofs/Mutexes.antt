@@ -1,6 +1,6 @@
 -- The law of the reentrant lock: a current tenure of a claim on a lock is the hold that the lock
 -- has, with its deadline.
-use Rattle.std.proofs.Common.{ℕ, List, Option, Some, None}
+use Rattle.std.proofs.Common.{ℕ, List, Option, Some}
 use Rattle.lr_names.specs.Owner.{ThreadOfClient}
 use Rattle.lr_names.specs.declared.kind.Kind.TheVariants.{Mutex}
 use Rattle.lr_objects.specs.declared.op.Op.{Op}
@@ -13,25 +13,28 @@ use Rattle.lr_model.specs.Mutex.{lock_post, lock_try, lock_unlock, lock_renew, l
 use Rattle.lr_model.specs.Tenure.{HoldMode, Tenure, tenure_by_call}
 use Rattle.lr_laws.proofs.Claims.{claim_on, of_two_owners}
 use Rattle.lr_laws.proofs.ClaimLaws.{ClaimLaw}
-use Rattle.lr_laws.proofs.Holds.{IsKeeping, take_hold-keeps, give_back_hold-keeps, renew_hold-keeps, on_live_hold, end_hold-ends}
+use Rattle.lr_laws.proofs.Holds.{live_hold-live}
+use Rattle.lr_laws.proofs.HoldSteps.{IsKeeping, on_live_hold}
+use Rattle.lr_laws.proofs.HoldFunctions.{take_hold-keeps, give_back_hold-keeps, renew_hold-keeps, end_hold-ends}
 use Rattle.lr_laws.proofs.HoldTables.{BacksAlone, alone_at_start, alone_later, alone_apart, alone_by_owner, alone_by_operator}
 
 module _ (moment : ℕ) (owner : ThreadOfClient) (lease : ℕ) (lock : Option Hold) where
   lock_try-keeps : IsKeeping moment lease owner lock (lock_try moment owner lease lock)
   lock_try-keeps =
-      on_live_hold moment lease owner lock _
-      (take_hold-keeps moment lease owner (live_hold moment lock))
+      on_live_hold moment lease owner (λ held. held) lock _
+      (take_hold-keeps moment lease owner (live_hold moment lock) (live_hold-live moment lock))
 
   lock_unlock-keeps : (name : List ℕ)
       → IsKeeping moment lease owner lock (lock_unlock name moment owner lease lock)
   lock_unlock-keeps name =
-      on_live_hold moment lease owner lock _
-      (give_back_hold-keeps moment lease owner (Some (lock_post name)) (live_hold moment lock))
+      on_live_hold moment lease owner (λ held. held) lock _
+      (give_back_hold-keeps moment lease owner (Some (lock_post name)) (live_hold moment lock)
+      (live_hold-live moment lock))
 
   lock_renew-keeps : IsKeeping moment lease owner lock (lock_renew moment owner lease lock)
   lock_renew-keeps =
-      on_live_hold moment lease owner lock _
-      (renew_hold-keeps moment lease owner (live_hold moment lock))
+      on_live_hold moment lease owner (λ held. held) lock _
+      (renew_hold-keeps moment lease owner (live_hold moment lock) (live_hold-live moment lock))
 
 module _ (name : List ℕ) (mode : HoldMode) (owner : ThreadOfClient) where
   -- a lock backs a claim
@@ -68,7 +71,7 @@ pub mutex_law : ClaimLaw Mutex
 mutex_law = record {
   Backs = Backs;
   kept = λ name mode owner. record {
-    at_start = alone_at_start mode owner 0 None;
+    at_start = alone_at_start mode owner 0;
     by_time = λ m n tenure objects. alone_later mode owner m n tenure (objects.mutexes name);
     by_call = by_call name mode owner;
   };

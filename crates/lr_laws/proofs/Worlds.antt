@@ -13,6 +13,9 @@ use Rattle.lr_model.specs.Within.{IsWithin, IsClient}
 use Rattle.lr_model.specs.World.{World, first_state, first_world, call_entry, caller_of, command_connection, operator, operator_connection, asked_of, waiter_of, next_exec, next, deeds_of, deeds_of_exec, deeds_of_event}
 use Rattle.lr_model.proofs.Histories.{after-push, IsLegal-push, deeds_of-push}
 use Rattle.lr_laws.proofs.Conflicts.{no_conflict}
+use Rattle.lr_laws.proofs.Tokens.{tokens_grow}
+use Rattle.lr_laws.proofs.Semaphores.{never_overgranted}
+use Rattle.lr_laws.proofs.Latches.{counts_down}
 use Rattle.lr_laws.proofs.QuietBoards.{IsQuiet-after_post, CanCall-at_start}
 
 -- the history of a world is in order
@@ -28,6 +31,9 @@ IsSound-from_order world order = record {
   legal = order.legal;
   in_time = order.in_time;
   exclusive = no_conflict 128 world.entries order.legal;
+  tokens = tokens_grow 128 world.entries order.legal;
+  permits = never_overgranted 128 world.entries;
+  counts = counts_down 128 world.entries;
 }
 
 -- one call more

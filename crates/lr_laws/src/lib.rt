@@ -5,5 +5,6 @@
 mod laws;
 
 pub use laws::{
-    every_schedule_goes_well, every_schedule_goes_well_throughout, tenures_never_conflict,
+    every_schedule_goes_well, every_schedule_goes_well_throughout, latches_count_down,
+    semaphores_never_grant_more_than_there_is, tenures_never_conflict, tokens_strictly_grow,
 };
