@@ -10,8 +10,13 @@ use Rattle.lr_model.specs.declared.schedule_line.ScheduleLine.{ScheduleLine}
 use Rattle.lr_model.specs.declared.schedule_line.ScheduleLine.TheVariants as kinds
 use Rattle.lr_model.specs.Transcript.{AreLinesOf, IsLine, bad_line, too_many_line}
 use Rattle.lr_schedule.proofs.EventLaws.{one_kind}
-use Rattle.lr_play.specs.Ends.{StoppedAt, EndsSo, is_read_fault, is_write_fault}
+use Rattle.lr_play.specs.Ends.{StoppedAt, EndsSo, IsEndOfRun, IsEndOfPlay, is_read_fault, is_write_fault}
 use Rattle.lr_play.proofs.Events.{AreLinesOf-at}
+
+-- an end of a run is one of the program
+pub end_of_play : (status : Status) → IsEndOfRun status → IsEndOfPlay status
+end_of_play Usage end = tt
+end_of_play _ end = end
 
 -- the only one of one word
 pub one_word : (words : List (List ℕ)) (w : List ℕ) → 1 ≤ length words → length words < 2 → w ≡ get_or words 0 w → words ≡ w ∷ []

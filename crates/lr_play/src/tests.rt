@@ -14,7 +14,7 @@ struct Run {
     status: Status,
 }
 
-const RUNS: [Run; 8] = [
+const RUNS: [Run; 11] = [
     Run {
         pieces: &[],
         reads: &[],
@@ -38,6 +38,27 @@ const RUNS: [Run; 8] = [
     },
     Run {
         pieces: &[b"begin 65 1 once lock_try a!\n"],
+        reads: &[],
+        writes: &[],
+        output: b"bad line 1\n",
+        status: Status::BadLine(1),
+    },
+    Run {
+        pieces: &[b"begin 1 1 once sem_try s 0\n"],
+        reads: &[],
+        writes: &[],
+        output: b"bad line 1\n",
+        status: Status::BadLine(1),
+    },
+    Run {
+        pieces: &[b"begin 1 1 once sem_try s 1000000001\n"],
+        reads: &[],
+        writes: &[],
+        output: b"bad line 1\n",
+        status: Status::BadLine(1),
+    },
+    Run {
+        pieces: &[b"begin 1 1 5 sem_set s 1\n"],
         reads: &[],
         writes: &[],
         output: b"bad line 1\n",
@@ -106,6 +127,45 @@ const LOCKS: [Step; 24] = [
     Step::Line("force e", "not-held"),
     Step::Do(1, "lock_unlock e 30000", "not-held", "not-held"),
     Step::Line("take 1 1", "no idle"),
+];
+
+const FENCED_LOCKS: [Step; 11] = [
+    Step::Do(1, "fenced_try g 1000", "token 1", "token 1"),
+    Step::Do(1, "fenced_try g 1000", "token 1", "token 1"),
+    Step::Do(2, "fenced_try g 1000", "busy 1000", "busy 1000"),
+    Step::Line("tick 1000", "moment 1000"),
+    Step::Do(1, "fenced_unlock g 30000", "not-held", "not-held"),
+    Step::Do(2, "fenced_try g 1000", "token 2", "token 2"),
+    Step::Do(
+        2,
+        "fenced_unlock g 30000",
+        "freed post ch:fenced:g 0",
+        "freed",
+    ),
+    Step::Do(1, "fenced_token g", "count 2", "count 2"),
+    Step::Do(1, "fenced_try g 0", "bad-lease", "bad-lease"),
+    Step::Do(1, "fenced_try g 5", "token 3", "token 3"),
+    Step::Do(2, "fenced_try g 86400000001", "bad-lease", "bad-lease"),
+];
+
+const SEMAPHORES: [Step; 9] = [
+    Step::Do(1, "sem_set s 1", "set post ch:sem:s 0", "set"),
+    Step::Do(1, "sem_set s 4", "already-set", "already-set"),
+    Step::Do(1, "sem_try s 1", "granted", "granted"),
+    Step::Do(2, "sem_try s 3", "short", "short"),
+    Step::Do(1, "sem_release s 1", "count 1 post ch:sem:s 0", "count 1"),
+    Step::Do(1, "sem_count s", "count 1", "count 1"),
+    Step::Do(1, "sem_set t 1000000000", "set post ch:sem:t 0", "set"),
+    Step::Do(1, "sem_release t 1", "too-many", "too-many"),
+    Step::Do(1, "sem_count u", "count 0", "count 0"),
+];
+
+const LATCHES: [Step; 5] = [
+    Step::Do(1, "latch_set l 1", "set", "set"),
+    Step::Do(1, "latch_set l 2", "already-set", "already-set"),
+    Step::Do(1, "latch_count l", "count 1", "count 1"),
+    Step::Do(1, "latch_down l", "count 0 post ch:latch:l 0", "count 0"),
+    Step::Do(1, "latch_down l", "count 0", "count 0"),
 ];
 
 // A schedule and the transcript that is wanted of it.
@@ -220,5 +280,23 @@ fn other_words_are_refused(rt: HostRuntime) -> Result<(), Fail> {
 #[test]
 fn locks_with_leases(rt: HostRuntime) -> Result<(), Fail> {
     assert!(rt; is_shown(rt.alloc(), &LOCKS)?);
+    Ok(())
+}
+
+#[test]
+fn tokens_grow(rt: HostRuntime) -> Result<(), Fail> {
+    assert!(rt; is_shown(rt.alloc(), &FENCED_LOCKS)?);
+    Ok(())
+}
+
+#[test]
+fn permits_are_taken_and_given(rt: HostRuntime) -> Result<(), Fail> {
+    assert!(rt; is_shown(rt.alloc(), &SEMAPHORES)?);
+    Ok(())
+}
+
+#[test]
+fn latches_count_down(rt: HostRuntime) -> Result<(), Fail> {
+    assert!(rt; is_shown(rt.alloc(), &LATCHES)?);
     Ok(())
 }

@@ -22,8 +22,8 @@ use std::alloc::Global;
 /// BadLine and TooMany what the lines up to that line show; at ReadFault what the whole lines read so
 /// far show; at WriteFault and NoMemory a front of such a text. Each names the events of the run:
 /// their texts are the lines, and after each of them the history is legal, holds each caller's calls
-/// once and in order, and no two claims that conflict are held at once. Want of memory may end a run
-/// at any line.
+/// once and in order, no two claims that conflict are held at once, tokens grow, no semaphore has
+/// granted more than there was, and latches count down. Want of memory may end a run at any line.
 pub fn play_top<S: Source, K: Sink>(
     alloc: Global,
     words: &[Text],
@@ -55,7 +55,8 @@ pub fn play_top<S: Source, K: Sink>(
         → (result ≡ Status.Done) ⊎ (result ≡ Status.NoMemory) }
 
     // After each event of each schedule the history is legal, holds each caller's calls once and in
-    // order, and no two claims that conflict are held at once.
+    // order, no two claims that conflict are held at once, tokens grow, no semaphore has granted more
+    // than there was, and latches count down.
     ensures every_event { (events : List Event) → AllByRecursion IsWithin events → GoesWell events }
 {
     if !is_play(words) {

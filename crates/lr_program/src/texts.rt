@@ -18,7 +18,7 @@ usage: lockd play|serve|shell|audit|drill|race
 
 A schedule has one event on each line, as words with single spaces between them:
 
-  begin C T once FUNCTION NAME LEASE
+  begin C T once FUNCTION NAME ..
              thread T of client C begins a request. Both are numbered from 1 on.
   ask C T    its call is sent.
   exec C T   the server executes the call, now.
@@ -26,11 +26,21 @@ A schedule has one event on each line, as words with single spaces between them:
   tick M     the clock shows M, in milliseconds. It begins at 0, and never goes back.
   force NAME an operator takes the lock away from whoever holds it.
 
-A FUNCTION is called with the NAME of a lock (letters, digits, _, . and -) and a LEASE in
-milliseconds. These work today:
+A FUNCTION is called with the NAME of an object (letters, digits, _, . and -), and, as is shown
+here, a LEASE in milliseconds, or a number N from 1 to 1000000000. These work today:
 
-  lock_try     takes the lock for LEASE, where it is free or the thread holds it already.
-  lock_unlock  gives a hold back. Where more are left, they last for LEASE from now on.
+  lock_try NAME LEASE       takes the lock for LEASE, where it is free or the thread holds it.
+  lock_unlock NAME LEASE    gives a hold back. Where more are left, they last for LEASE from now.
+  fenced_try NAME LEASE     the same of a fenced lock, with a token that grows with each holder.
+  fenced_unlock NAME LEASE  gives a hold back.
+  fenced_token NAME         tells the last token.
+  sem_set NAME N            gives the semaphore N permits, where it has no number yet.
+  sem_try NAME N            takes N permits, where so many are free.
+  sem_release NAME N        gives N permits back, or adds them.
+  sem_count NAME            tells how many are free.
+  latch_set NAME N          sets the countdown latch to N, where it is at 0.
+  latch_down NAME           counts it down by one.
+  latch_count NAME          tells its count.
 
 A line that is no event ends the run, and standard error says why. Exit status: 0 where the
 schedule was run to its end, 2 where the words are no command, 3 where a read failed, 4 where a

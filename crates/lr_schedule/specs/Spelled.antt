@@ -10,7 +10,8 @@ use Rattle.lr_model.specs.declared.event.Event.TheVariants as events
 use Rattle.lr_model.specs.declared.schedule_line.ScheduleLine.{ScheduleLine}
 use Rattle.lr_model.specs.declared.schedule_line.ScheduleLine.TheVariants as lines
 use Rattle.lr_model.specs.EventText.{event_words, LeaseFits, NumberFits, IdFits, IsEvent}
-use Rattle.lr_model.specs.Within.{IsClient, IsWithin, HasAmount, HasOwnLease}
+use Rattle.lr_objects.specs.Want.{HasAmount}
+use Rattle.lr_model.specs.Within.{IsClient, IsWithin, HasOwnLease}
 use Rattle.lr_schedule.specs.declared.verb.Verb.{Verb}
 use Rattle.lr_schedule.specs.declared.verb.Verb.TheVariants as verbs
 use Rattle.lr_schedule.specs.declared.spelled.Who.{Who}

@@ -51,7 +51,9 @@ const REPLIES: [(Reply, &str); 8] = [
 const REASONS: [(&str, &str); 10] = [
     (
         "begin 1 1 once lock_tyr a 5",
-        "\"lock_tyr\" is no function; functions are lock_try, lock_unlock (word 5 of ",
+        "\"lock_tyr\" is no function; functions are lock_try, lock_unlock, fenced_try, \
+         fenced_unlock, fenced_token, sem_set, sem_try, sem_release, sem_count, latch_set, \
+         latch_down, latch_count (word 5 of ",
     ),
     (
         "begin 1 1 once lock_try a! 5",

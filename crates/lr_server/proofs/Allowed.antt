@@ -3,7 +3,7 @@ use Rattle.std.proofs.Common.{◌≡◌, ℕ, false, not, List, [], ◌∷◌, l
 use Rattle.std.proofs.lemmas.Bool.{false≢true, leb-false, or_parts, not-false}
 use Rattle.lr_names.specs.Channel.{ChannelOf}
 use Rattle.lr_model.specs.declared.entry.Act.{Act}
-use Rattle.lr_model.specs.declared.entry.Act.TheVariants.{Call, Subscribe, Unsubscribe, Open, Close, Drain}
+use Rattle.lr_model.specs.declared.entry.Act.TheVariants.{Call, Subscribe, Unsubscribe}
 use Rattle.lr_model.specs.Board.{Connection, is_open, has_room}
 use Rattle.lr_model.specs.History.{State, CanAcknowledge, IsAllowed}
 use Rattle.lr_pubsub.specs.Connection.{is_shut}

@@ -7,7 +7,7 @@ use Rattle.lr_keys.specs.KeySpace.{Keys}
 use Rattle.lr_model.specs.declared.entry.Act.{Act}
 use Rattle.lr_model.specs.declared.entry.Act.TheVariants.{Call}
 use Rattle.lr_model.specs.declared.entry.Entry.{Entry}
-use Rattle.lr_model.specs.Answer.{reply_of, post_of}
+use Rattle.lr_model.specs.Answer.{post_of}
 use Rattle.lr_model.specs.Board.{board_after_post}
 use Rattle.lr_model.specs.History.{State, Replies}
 use Rattle.lr_model.specs.World.{call_entry}

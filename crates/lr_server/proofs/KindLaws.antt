@@ -1,5 +1,5 @@
 -- Kinds of objects are apart: so are their keys, and what a call of one does leaves the others.
-use Rattle.std.proofs.Common.{◌≡◌, ℕ, ◌==◌, List, [], ◌∷◌, map, Bool, true, false, ◌&&◌, ◌||◌, if◌then◌else◌, IsTrue, ◌⊎◌, inl, inr, refl, sym, ap, ◌∙◌}
+use Rattle.std.proofs.Common.{◌≡◌, ℕ, ◌==◌, List, [], ◌∷◌, map, Bool, true, false, ◌||◌, if◌then◌else◌, IsTrue, ◌⊎◌, inl, inr, refl, sym, ap, ◌∙◌}
 use Rattle.std.specs.List.{list_any, list_all}
 use Rattle.std.specs.Str.{bytes_eq}
 use Rattle.std.proofs.lemmas.Bool.{true≢false, false≢true, eqb-true, eq-eqb, and_parts, or_cases}
@@ -110,3 +110,12 @@ keys_apart a b m n key apart among = by (list_any (bytes_eq key) (keys_of b n)) 
 pub first_among : (key : List ℕ) (keys : List (List ℕ))
     → IsTrue (list_any (bytes_eq key) (key ∷ keys))
 first_among key keys = ap (λ b. b || list_any (bytes_eq key) keys) (bytes_eq-same key)
+
+-- and so is the second
+pub second_among : (first key : List ℕ) (keys : List (List ℕ))
+    → IsTrue (list_any (bytes_eq key) (first ∷ key ∷ keys))
+second_among first key keys = by (bytes_eq key first)
+  where
+    by : (b : Bool) → IsTrue (b || list_any (bytes_eq key) (key ∷ keys))
+    by true = refl
+    by false = first_among key keys

@@ -1,6 +1,11 @@
 pub mod Allowed
 pub mod Done
 pub mod KindLaws
+pub mod KindsLater
+pub mod MutexesStay
+pub mod FencedLocksStay
+pub mod SemaphoresStay
+pub mod CountdownsStay
 pub mod Numbers
 pub mod Runs
 pub mod Serves

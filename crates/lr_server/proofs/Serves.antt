@@ -11,7 +11,7 @@ use Rattle.lr_model.specs.declared.entry.Act.TheVariants.{Call, Subscribe, Unsub
 use Rattle.lr_model.specs.declared.entry.Entry.{Entry}
 use Rattle.lr_model.specs.Answer.{post_of}
 use Rattle.lr_model.specs.Board.{Board, Connection, closed_connection, connection_after_drain, new_connection, dropped_connection, with_item, has_channel, has_room, is_open, free_numbers, board_after_post, connection_after_post, with_connection}
-use Rattle.lr_model.specs.History.{State, state_at_start, step, after, board_by, CanDrain, IsAllowed, IsLegal}
+use Rattle.lr_model.specs.History.{State, state_at_start, step, board_by, CanDrain, IsAllowed}
 use Rattle.lr_model.proofs.Histories.{after-push, IsLegal-push}
 use Rattle.lr_pubsub.specs.BoardValue.{BoardValue, board_of}
 use Rattle.lr_pubsub.proofs.Numbers.{below_few, below_least}

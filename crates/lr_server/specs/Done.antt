@@ -1,5 +1,5 @@
 -- What the call of a function and the act of an entry do to the keys and the board.
-use Rattle.std.specs.Prelude.{◌≡◌, ℕ, ◌≤◌, Option, Some}
+use Rattle.std.specs.Prelude.{◌≡◌, ℕ, ◌≤◌, Option, Some, Result, IfOk, OnErr}
 use Rattle.lr_names.specs.declared.post.Post.{Post}
 use Rattle.lr_objects.specs.declared.op.Op.{Op}
 use Rattle.lr_objects.specs.declared.reply.Reply.{Reply}
@@ -23,6 +23,17 @@ pub record HasRun (old new : Keys) (moment : ℕ) (op : Op)
   pub stands : (objects : Objects) → KeysStand old objects
       → KeysStand new (objects_after objects moment op)
   pub in_time : new.moment ≤ moment
+
+-- Where no memory was found, the keys stand for what they stood for, at the same moment.
+pub record StillStands (old new : Keys) : Type 0 where
+  pub stands : (objects : Objects) → KeysStand old objects → KeysStand new objects
+  pub moment : new.moment ≡ old.moment
+
+-- what the call of a function comes to: it ran, or found no memory
+pub record IsRun {E : Type 0} (old new : Keys) (moment : ℕ) (op : Op)
+    (result : Result (Reply × Option Post) E) : Type 0 where
+  pub ran : IfOk result (λ r. HasRun old new moment op r.0 r.1)
+  pub err : OnErr result (StillStands old new)
 
 -- the message of a call was sent, if it has one, and the call was answered
 pub record IsSent (old new : BoardValue) (reply : Reply) (message : Option Post) (answered : Answered) : Type 0 where

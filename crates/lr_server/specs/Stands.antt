@@ -1,16 +1,19 @@
 -- For which state of a server its keys and its board stand: a relation for each kind of object,
 -- and one over them all. A further kind adds a line to `KindStands`.
-use Rattle.std.specs.Prelude.{◌≡◌, ℕ, List, Option, None, IsSome, IsTrue}
+use Rattle.std.specs.Prelude.{◌≡◌, ℕ, List, None, IsSome, IsTrue}
 use Rattle.std.specs.List.{list_any}
 use Rattle.std.specs.Str.{bytes_eq}
 use Rattle.lr_names.specs.Key.{keys_of}
 use Rattle.lr_names.specs.Name.{IsName}
 use Rattle.lr_names.specs.declared.kind.Kind.{Kind}
-use Rattle.lr_names.specs.declared.kind.Kind.TheVariants.{Mutex}
+use Rattle.lr_names.specs.declared.kind.Kind.TheVariants.{Mutex, Fenced, Semaphore, Countdown}
 use Rattle.lr_keys.specs.KeySpace.{Keys, entry_at}
 use Rattle.lr_model.specs.Answer.{Objects}
 use Rattle.lr_model.specs.History.{State}
 use Rattle.lr_mutex.specs.Stands.{MutexesStand}
+use Rattle.lr_fenced.specs.Stands.{FencedLocksStand}
+use Rattle.lr_semaphore.specs.Stands.{SemaphoresStand}
+use Rattle.lr_countdown.specs.Stands.{CountdownsStand}
 use Rattle.lr_pubsub.specs.BoardValue.{BoardValue, board_of}
 
 -- no key of an object of this kind is there
@@ -21,6 +24,9 @@ pub record HasNoKeys (kind : Kind) (keys : Keys) : Type 0 where
 -- the keys of a kind stand for the objects of that kind; a kind without functions has no keys
 abbrev pub KindStands : Kind → Keys → Objects → Type 0
 KindStands Mutex keys objects = MutexesStand keys objects
+KindStands Fenced keys objects = FencedLocksStand keys objects
+KindStands Semaphore keys objects = SemaphoresStand keys objects
+KindStands Countdown keys objects = CountdownsStand keys objects
 KindStands kind keys objects = HasNoKeys kind keys
 
 -- the keys stand for the objects: those of each kind do, and a key that is there is one of an

@@ -7,7 +7,7 @@ ghost use Rattle.lr_model.specs.World.{call_entry};
 ghost use Rattle.lr_pubsub.specs.BoardValue.{board_of};
 ghost use Rattle.lr_server.specs.Server.{is_asked, is_stopped};
 ghost use Rattle.lr_server.specs.Stands.{StateStands};
-ghost use Rattle.lr_server.specs.Done.{IsSent, IsDone};
+ghost use Rattle.lr_server.specs.Done.{IsSent, IsDone, StillStands};
 
 use crate::answered::{Answer, Answered};
 use crate::calls::run;
@@ -18,8 +18,8 @@ use lr_objects::{Op, Reply};
 use lr_pubsub::Board;
 use std::alloc::{AllocError, Global};
 
-/// Does the act of an entry that may follow, for which the board took its memory. An error changes
-/// nothing.
+/// Does the act of an entry that may follow, for which the board took its memory. After an error the
+/// keys stand for the same objects at the same moment, and the board is as before.
 pub(crate) fn make(
     alloc: Global,
     keys: &mut KeySpace,
@@ -34,7 +34,7 @@ pub(crate) fn make(
     requires in_time { keys.old.moment ≤ entry.now.moment }
     ensures done { IfOk result (λ a. (state : State) → StateStands keys.old board.old state
         → IsDone state entry.now a keys.new board.new) }
-    ensures keys { OnErr result (keys.new ≡ keys.old) }
+    ensures keys { OnErr result (StillStands keys.old keys.new) }
     ensures board { OnErr result (board.new.connections ≡ board.old.connections) }
 {
     match &entry.act {
@@ -51,7 +51,7 @@ pub(crate) fn make(
     }
 }
 
-// Runs a call, and sends its message. An error changes nothing.
+// Runs a call, and sends its message. After an error the keys stand for the same objects.
 fn call(
     alloc: Global,
     keys: &mut KeySpace,
@@ -65,7 +65,7 @@ fn call(
     ensures done { IfOk result (λ a. (state : State) (caller conn : ℕ)
         → StateStands keys.old board.old state
         → IsDone state (call_entry moment caller conn op.now) a keys.new board.new) }
-    ensures keys { OnErr result (keys.new ≡ keys.old) }
+    ensures keys { OnErr result (StillStands keys.old keys.new) }
     ensures board { OnErr result (board.new.connections ≡ board.old.connections) }
 {
     match run(alloc, keys, moment, op) {

@@ -8,4 +8,7 @@ use Rattle.lr_model.specs.declared.shown.Replied.{Replied}
 -- a reply, and the message that was sent with the number of connections that it reached
 abbrev pub replied_with : Reply → Option Post → ℕ → Replied
 replied_with reply post connections =
-    record { reply = reply; post = option_map (λ p. record { channel = p.channel; connections = connections }) post }
+    record {
+      reply = reply;
+      post = option_map (λ p. record { channel = p.channel; connections = connections }) post;
+    }

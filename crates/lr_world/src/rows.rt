@@ -2,13 +2,15 @@
 ghost use Rattle.std.specs.Prelude.{◌≡◌, ◌<◌, ◌≤◌, List, length, IfOk, OnOk, OnErr, Some, None};
 ghost use Rattle.lr_limits.specs.Limits.{entry_limit, last_moment};
 ghost use Rattle.lr_names.specs.Owner.{IsThread};
+ghost use Rattle.lr_objects.specs.Function.{arguments_of};
+ghost use Rattle.lr_objects.specs.Want.{HasAmount};
 ghost use Rattle.lr_model.specs.declared.shown.Shown.TheVariants as shows;
 ghost use Rattle.lr_model.specs.declared.waiter.Stage.TheVariants.{Answered};
 ghost use Rattle.lr_model.specs.Sound.{IsInOrder};
 ghost use Rattle.lr_model.specs.Within.{IsClient};
 ghost use Rattle.lr_model.specs.World.{owner_of, caller_of, command_connection, phase_of, begin_row, ask_row, take_row, waiter_after_ask, asked_at, asked_of, reply_at, waiting_reply, with_stage, shown_row, shown_exec, shown_take, clients_after, next_exec};
 ghost use Rattle.lr_world.specs.Requests.{request_of, clients_of};
-ghost use Rattle.lr_world.specs.World.{world_with};
+ghost use Rattle.lr_world.specs.World.{AreBegun, world_with};
 
 use crate::call::call;
 use crate::requests::Requests;
@@ -69,6 +71,7 @@ fn asked(waiter: Waiter) -> Option<Asking>
 
 // The request with its call sent, where it has just begun.
 fn sent(owner: &Owner, moment: u64, waiter: Waiter) -> Option<Waiter>
+    requires { HasAmount (arguments_of waiter.want.function) waiter.want }
     ensures { result ≡ waiter_after_ask owner.now moment waiter waiter.stage }
 {
     let Waiter {
@@ -158,7 +161,8 @@ pub(crate) fn begin(
 
 /// A thread's call is sent.
 pub(crate) fn ask(requests: &mut Requests, id: ThreadId, moment: u64) -> Shown
-    requires { IsThread id.thread }
+    requires thread { IsThread id.thread }
+    requires begun { AreBegun (clients_of requests.old id.client) }
     ensures shown { let client = clients_of requests.old id.client in
         let row = ask_row (owner_of id.client id.thread) moment client in
         result ≡ shown_row shows.Asked row (phase_of (request_of requests.old id)) }

@@ -6,7 +6,7 @@ ghost use Rattle.lr_model.specs.History.{after};
 ghost use Rattle.lr_model.specs.Sound.{IsInOrder, IsSound};
 ghost use Rattle.lr_model.specs.Within.{IsWithin, MayBegin};
 ghost use Rattle.lr_model.specs.World.{first_state, first_world, operator, operator_connection, call_entry, replied_at, shown, next, deeds_of, deeds_of_event};
-ghost use Rattle.lr_world.specs.World.{world_of, world_with};
+ghost use Rattle.lr_world.specs.World.{AllBegun, world_of, world_with};
 
 use crate::call::call;
 use crate::requests::Requests;
@@ -120,6 +120,8 @@ fn run(
     requires within { IsWithin event.now }
     requires first { server.old.last ≡ 128 }
     requires in_order { IsInOrder server.old.entries moment.old }
+    requires begins { MayBegin event.now }
+    requires begun { AllBegun (world_with server.old.entries moment.old requests.old) }
     requires room { length server.old.entries < entry_limit }
     requires early { moment.old ≤ last_moment }
     ensures shown { let world = world_with server.old.entries moment.old requests.old in

@@ -1,6 +1,6 @@
 use Rattle.lr_laws.proofs.Schedules.{goes_well}
 use Rattle.lr_play.proofs.Progress.{nothing_written}
-use Rattle.lr_play.proofs.Ends.{completes}
+use Rattle.lr_play.proofs.Ends.{completes, end_of_play}
 use Rattle.lr_play.proofs.top.play_top.Goals as goal
 
 pub returns-then-not-is_play-clause-every_event : goal.returns-then-not-is_play-clause-every_event
@@ -19,3 +19,6 @@ returns-in-Ok-clause-complete g c = λ all before events words left held are no_
 
 pub returns-in-Err-clause-ends : goal.returns-in-Err-clause-ends
 returns-in-Err-clause-ends g c = λ is all before left held. (all, before, left, held, nothing_written all before)
+
+pub returns-in-Ok-clause-no_other : goal.returns-in-Ok-clause-no_other
+returns-in-Ok-clause-no_other g c = end_of_play c.run.result c.run.ensures.no_other

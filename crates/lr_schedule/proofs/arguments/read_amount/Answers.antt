@@ -1,6 +1,6 @@
 use Rattle.std.proofs.Common.{◌≡◌, arith, true≢false, sym, ◌∙◌, subst}
 use Rattle.std.proofs.lemmas.Fmt.{decimal_injective}
-use Rattle.lr_model.specs.Within.{IsAmount}
+use Rattle.lr_objects.specs.Amount.{IsAmount}
 use Rattle.lr_schedule.proofs.arguments.read_amount.Goals as goal
 
 pub returns-then-not-is_amount-clause-none : goal.returns-then-not-is_amount-clause-none

@@ -1,6 +1,5 @@
-use Rattle.std.proofs.Common.{arith, sym, ◌≡◌, ◌≤◌, Some, slice_get}
+use Rattle.std.proofs.Common.{arith, sym, ◌≤◌}
 use Rattle.lr_limits.specs.Limits.{connection_limit}
-use Rattle.lr_model.specs.Board.{free_numbers}
 use Rattle.lr_pubsub.specs.BoardValue.{board_of}
 use Rattle.lr_server.proofs.Serves.{least_is_free, serves_as_shown, serves_pushed, serves_open}
 use Rattle.lr_server.proofs.state.ServerState.open.Goals as goal

@@ -3,7 +3,8 @@ use Rattle.lr_model.specs.Sound.{IsInOrder}
 use Rattle.lr_model.specs.World.{World, deeds_of, deeds_of_event}
 use Rattle.lr_laws.proofs.Worlds.{InOrder, InOrder-next, IsSound-from_order, deeds_of-next, length-next}
 use Rattle.lr_server.specs.Server.{ServerValue}
-use Rattle.lr_world.specs.World.{WorldValue, world_of, world_with}
+use Rattle.lr_world.specs.World.{AllBegun, WorldValue, world_of, world_with}
+use Rattle.lr_world.proofs.Begun.{next-begun}
 use Rattle.lr_world.proofs.world.World.apply.Goals as goal
 
 pub returns-in_err-shown-clause-sound : goal.returns-in_err-shown-clause-sound
@@ -22,6 +23,8 @@ invariant_of-self-2 c =
     record {
       first = c.in_ok-shown.ensures.last ∙ c.self.invariant.first;
       in_order = subst InOrder (sym next_is) (InOrder-next old c.args.event.now c.requires.within c.self.invariant.in_order);
+      begun = subst AllBegun (sym next_is)
+          (next-begun old c.args.event.now c.requires.begins c.self.invariant.begun);
       early = c.in_ok-shown.ensures.early;
       few = omega (arith, grown, c.self.invariant.few);
       limited = omega (arith, c.requires.room, ap (λ (v : WorldValue). v.applied) c.self.view_is);
