@@ -32,11 +32,11 @@ def thread_of(place):
     return 1 + place % CLIENTS, 1 + place // CLIENTS % THREADS
 
 
-def request(thread, function, name):
+def request(thread, function, name, lease=LEASE):
     """The four events of a request that is executed at once."""
     who = "%d %d" % thread
     return [
-        "begin %s once %s %s %d" % (who, function, name, LEASE),
+        "begin %s once %s %s %d" % (who, function, name, lease),
         "ask " + who,
         "exec " + who,
         "take " + who,
