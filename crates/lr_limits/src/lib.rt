@@ -2,9 +2,8 @@
 //! are this project's own.
 #![tactic(auto)]
 
-mod laws;
-
-pub use laws::limits_are_as_defined;
+ghost use Rattle.std.specs.Prelude.{◌≡◌};
+ghost use Rattle.lr_limits.specs.Limits as limits;
 
 /// The greatest length of a line of a schedule, in bytes, without its LF.
 pub const LINE_BYTES: usize = 512;
@@ -57,3 +56,24 @@ pub const MOST_CONNECTIONS: u32 = 256;
 
 /// How many entries a history takes. Only closes of connections may stand behind them.
 pub const MOST_ENTRIES: u64 = 2_000_000;
+
+/// Each limit of the code is the number that the definitions name.
+pub fn limits_are_as_defined()
+    ensures line { LINE_BYTES ≡ limits.line_limit }
+    ensures name { NAME_BYTES ≡ limits.name_limit }
+    ensures brief { BRIEF_BYTES ≡ limits.brief_limit }
+    ensures threads { MOST_THREADS ≡ limits.thread_limit }
+    ensures clients { MOST_CLIENTS ≡ limits.client_limit }
+    ensures events { MOST_EVENTS ≡ limits.event_limit }
+    ensures moment { LAST_MOMENT ≡ limits.last_moment }
+    ensures endless { NEVER ≡ limits.never }
+    ensures lease { LONGEST_LEASE ≡ limits.longest_lease }
+    ensures watchdog { WATCHDOG_LEASE ≡ limits.watchdog_lease }
+    ensures holds { MOST_HOLDS ≡ limits.hold_limit }
+    ensures tokens { LAST_TOKEN ≡ limits.token_limit }
+    ensures amounts { MOST_AMOUNT ≡ limits.amount_limit }
+    ensures members { MOST_MEMBERS ≡ limits.member_limit }
+    ensures waiting { MOST_WAITING ≡ limits.outbox_limit }
+    ensures connections { MOST_CONNECTIONS ≡ limits.connection_limit }
+    ensures entries { MOST_ENTRIES ≡ limits.entry_limit }
+{}

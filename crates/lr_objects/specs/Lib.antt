@@ -1,5 +1,13 @@
 pub mod Amount
+pub mod Form
+pub mod LockCalls
+pub mod ReadWriteCalls
+pub mod FencedCalls
+pub mod SemaphoreCalls
+pub mod CountdownCalls
+pub mod Kinds
 pub mod Function
+pub mod OpValue
 pub mod Op
 pub mod Reply
 pub mod Want

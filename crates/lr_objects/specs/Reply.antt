@@ -1,7 +1,8 @@
 -- Replies and their texts: this project's own.
 use Rattle.std.specs.Prelude.{ℕ, nat_lt, List, [], ◌++◌, codes, decimal, Bool, true, false, Option, Some, None}
-use Rattle.lr_objects.specs.declared.function.Function.{Function}
-use Rattle.lr_objects.specs.declared.function.Function.TheVariants.{LatchCount}
+use Rattle.lr_objects.specs.declared.kinds.Function.{Function}
+use Rattle.lr_objects.specs.declared.kinds.Function.TheVariants.{Countdown}
+use Rattle.lr_objects.specs.declared.countdown.CountdownFunction.TheVariants as latch
 use Rattle.lr_objects.specs.declared.reply.Reply.{Reply}
 use Rattle.lr_objects.specs.declared.reply.Reply.TheVariants.{Granted, Busy, Kept, Freed, NotHeld, Renewed, Lost, TooDeep, BadLease, GrantedToken, Short, Set, AlreadySet, Count, TooMany, TokensSpent}
 
@@ -10,8 +11,25 @@ use Rattle.lr_objects.specs.declared.reply.Reply.TheVariants.{Granted, Busy, Kep
 abbrev pub blocks : Reply → Function → Bool
 blocks (Busy millis) function = true
 blocks Short function = true
-blocks (Count count) LatchCount = nat_lt 0 count
+blocks (Count count) (Countdown latch.Count) = nat_lt 0 count
 blocks _ function = false
+
+-- what a reply to a call of an owner tells of its hold: it was taken, and maybe once more; one of
+-- several was given back; it has another deadline; the last one is gone; or nothing
+pub data HoldTold : Type 0 where
+  Taken : HoldTold
+  OneLess : HoldTold
+  Extended : HoldTold
+  Gone : HoldTold
+  NothingTold : HoldTold
+
+abbrev pub hold_told : Reply → HoldTold
+hold_told Granted = Taken
+hold_told (GrantedToken token) = Taken
+hold_told Kept = OneLess
+hold_told Renewed = Extended
+hold_told Freed = Gone
+hold_told _ = NothingTold
 
 -- the word of a reply
 abbrev pub reply_word : Reply → List ℕ

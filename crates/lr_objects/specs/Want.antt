@@ -2,19 +2,17 @@
 use Rattle.std.specs.Prelude.{ℕ, List, [], ◌∷◌, codes, decimal, Bool}
 use Rattle.lr_limits.specs.Limits.{watchdog_lease}
 use Rattle.lr_names.specs.Owner.{ThreadOfClient, id_text}
-use Rattle.lr_objects.specs.declared.function.Function.{Function}
-use Rattle.lr_objects.specs.declared.function.Function.TheVariants as functions
-use Rattle.lr_objects.specs.declared.function.Arguments.{Arguments}
-use Rattle.lr_objects.specs.declared.function.Arguments.TheVariants as arguments
+use Rattle.lr_objects.specs.declared.form.Arguments.{Arguments}
+use Rattle.lr_objects.specs.declared.form.Arguments.TheVariants as arguments
 use Rattle.lr_objects.specs.declared.op.Op.{Op}
-use Rattle.lr_objects.specs.declared.op.Op.TheVariants as ops
 use Rattle.lr_objects.specs.declared.want.Lease.{Lease}
 use Rattle.lr_objects.specs.declared.want.Lease.TheVariants.{Watch, For}
 use Rattle.lr_objects.specs.declared.want.Mode.{Mode}
 use Rattle.lr_objects.specs.declared.want.Mode.TheVariants as modes
 use Rattle.lr_objects.specs.declared.want.Want.{Want}
-use Rattle.lr_objects.specs.Amount.{IsAmount}
+use Rattle.lr_objects.specs.Form.{FitsAmount}
 use Rattle.lr_objects.specs.Function.{function_word, arguments_of}
+use Rattle.lr_objects.specs.Kinds.{call_of}
 
 -- a lease in milliseconds: that of the watchdog is Redisson's default
 abbrev pub lease_of : Lease → ℕ
@@ -23,30 +21,12 @@ lease_of (For millis) = millis
 
 -- the number, where the function is given one
 abbrev pub HasAmount : Arguments → Want → Type 0
-HasAmount arguments.Number want = IsAmount want.number
-HasAmount _ want = Unit {0}
+HasAmount arguments want = FitsAmount arguments want.number
 
--- the call of a function for a want, with the owner and the lease in their places
-abbrev pub call_of : Function → Want → ThreadOfClient → ℕ → Bool → Op
-call_of functions.LockTry want owner lease queue = ops.LockTry want.name owner lease
-call_of functions.LockUnlock want owner rest queue = ops.LockUnlock want.name owner rest
-call_of functions.LockRenew want owner lease queue = ops.LockRenew want.name owner lease
-call_of functions.LockForce want owner lease queue = ops.LockForce want.name
-call_of functions.FencedTry want owner lease queue = ops.FencedTry want.name owner lease
-call_of functions.FencedUnlock want owner rest queue = ops.FencedUnlock want.name owner rest
-call_of functions.FencedRenew want owner lease queue = ops.FencedRenew want.name owner lease
-call_of functions.FencedToken want owner lease queue = ops.FencedToken want.name
-call_of functions.SemSet want owner lease queue = ops.SemSet want.name want.number
-call_of functions.SemTry want owner lease queue = ops.SemTry want.name want.number
-call_of functions.SemRelease want owner lease queue = ops.SemRelease want.name want.number
-call_of functions.SemCount want owner lease queue = ops.SemCount want.name
-call_of functions.LatchSet want owner lease queue = ops.LatchSet want.name want.number
-call_of functions.LatchDown want owner lease queue = ops.LatchDown want.name
-call_of functions.LatchCount want owner lease queue = ops.LatchCount want.name
-
--- the call that a want is
+-- the call that a want is, with the owner and the lease in their places
 abbrev pub op_of : Want → ThreadOfClient → ℕ → Bool → Op
-op_of want owner lease queue = call_of want.function want owner lease queue
+op_of want owner lease queue =
+    record { name = want.name; call = call_of want.function want owner lease queue }
 
 -- how long a request may wait: not at all, for so many milliseconds, or for as long as it takes
 abbrev pub mode_word : Mode → List ℕ

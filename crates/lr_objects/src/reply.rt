@@ -1,7 +1,8 @@
 ghost use Rattle.std.specs.Prelude.{◌≡◌, ◌≤◌, ◌<◌, ◌^◌, length};
 ghost use Rattle.lr_objects.specs.Reply.{blocks, reply_word, reply_number};
 
-use crate::function::Function;
+use crate::countdown::CountdownFunction;
+use crate::kinds::Function;
 use std::marker::Model;
 
 /// How long an object stays busy at most, in milliseconds: at least 1.
@@ -159,7 +160,8 @@ impl Reply {
     {
         match (self, function) {
             (Reply::Busy(_) | Reply::Short, _) => true,
-            (Reply::Count(count), Function::LatchCount) => count.value() > 0,
+            (Reply::Count(count), Function::Countdown(CountdownFunction::Count)) => count.value()
+                > 0,
             _ => false,
         }
     }

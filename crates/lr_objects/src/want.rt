@@ -2,8 +2,7 @@ ghost use Rattle.std.specs.Prelude.{◌≡◌, ℕ};
 ghost use Rattle.lr_objects.specs.Function.{arguments_of};
 ghost use Rattle.lr_objects.specs.Want.{HasAmount, op_of, lease_of};
 
-use crate::amount::Amount;
-use crate::function::Function;
+use crate::kinds::Function;
 use crate::op::Op;
 use lr_limits::WATCHDOG_LEASE;
 use lr_names::{Name, Owner};
@@ -64,44 +63,9 @@ impl Want {
         requires { HasAmount (arguments_of self.now.function) self.now }
         ensures { result ≡ op_of self.now owner.now lease queue }
     {
-        let _ = queue;
-        let (name, owner) = (self.name, *owner);
-        match self.function {
-            Function::LockTry => Op::LockTry { name, owner, lease },
-            Function::LockUnlock => Op::LockUnlock {
-                name,
-                owner,
-                rest: lease,
-            },
-            Function::LockRenew => Op::LockRenew { name, owner, lease },
-            Function::LockForce => Op::LockForce { name },
-            Function::FencedTry => Op::FencedTry { name, owner, lease },
-            Function::FencedUnlock => Op::FencedUnlock {
-                name,
-                owner,
-                rest: lease,
-            },
-            Function::FencedRenew => Op::FencedRenew { name, owner, lease },
-            Function::FencedToken => Op::FencedToken { name },
-            Function::SemSet => Op::SemSet {
-                name,
-                number: Amount::new(self.number),
-            },
-            Function::SemTry => Op::SemTry {
-                name,
-                number: Amount::new(self.number),
-            },
-            Function::SemRelease => Op::SemRelease {
-                name,
-                number: Amount::new(self.number),
-            },
-            Function::SemCount => Op::SemCount { name },
-            Function::LatchSet => Op::LatchSet {
-                name,
-                number: Amount::new(self.number),
-            },
-            Function::LatchDown => Op::LatchDown { name },
-            Function::LatchCount => Op::LatchCount { name },
+        Op {
+            name: self.name,
+            call: self.function.call(self, owner, lease, queue),
         }
     }
 }

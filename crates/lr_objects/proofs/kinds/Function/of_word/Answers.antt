@@ -1,8 +1,8 @@
 use Rattle.lr_text.proofs.WordTableLaws.{with_word-some, with_word-none}
 use Rattle.lr_objects.specs.Function.{function_word}
-use Rattle.lr_objects.specs.declared.function.TheConstants.Function.{ALL}
+use Rattle.lr_objects.specs.declared.kinds.TheConstants.Function.{ALL}
 use Rattle.lr_objects.proofs.FunctionLaws.{IsWordTable-function_word}
-use Rattle.lr_objects.proofs.function.Function.of_word.Goals as goal
+use Rattle.lr_objects.proofs.kinds.Function.of_word.Goals as goal
 
 pub returns-clause-some : goal.returns-clause-some
 returns-clause-some c = rw c.search.ensures (with_word-some function_word ALL c.args.word.now)
