@@ -1,5 +1,5 @@
 -- The claims on one object, and what two claims that conflict have in common.
-use Rattle.std.proofs.Common.{◌≡◌, ℕ, List, true, not, ◌&&◌, ◌||◌, ◌==◌, if◌then◌else◌, refl, sym, ap, ◌∙◌}
+use Rattle.std.proofs.Common.{◌≡◌, ℕ, List, true, false, not, ◌&&◌, ◌||◌, ◌==◌, if◌then◌else◌, refl, sym, ap, ◌∙◌}
 use Rattle.std.specs.Str.{bytes_eq}
 use Rattle.std.proofs.lemmas.Bool.{false≢true, and_parts, not-true}
 use Rattle.std.proofs.lemmas.Bool.Decides.{Decides-eqb}
@@ -7,8 +7,12 @@ use Rattle.std.proofs.lemmas.Slice.Eq.{bytes_eq-Decides}
 use Rattle.lr_names.specs.Owner.{ThreadOfClient, same_owner}
 use Rattle.lr_names.specs.declared.kind.Kind.{Kind}
 use Rattle.lr_names.specs.declared.kind.Kind.TheVariants.{Mutex, Fair, Rw, Fenced, Semaphore, Permits, Countdown}
+use Rattle.lr_objects.specs.Op.{kind_of, name_of}
+use Rattle.lr_objects.specs.declared.op.Op.{Op}
+use Rattle.lr_model.specs.Answer.{concern_of}
 use Rattle.lr_model.specs.Board.{kind_number, same_kind}
-use Rattle.lr_model.specs.Tenure.{HoldMode, Claim, same_object, conflicts, is_exclusive}
+use Rattle.lr_model.specs.Claim.{HoldMode, Claim, Concern, NoHold, OwnHold, AllHolds, is_exclusive}
+use Rattle.lr_model.specs.Tenure.{same_object, conflicts, claim_by, is_of_all, is_claim, concerns}
 use Rattle.lr_laws.proofs.Owners.{same_owner-Decides}
 
 -- the claim of an owner on an object of a kind, in a mode
@@ -57,3 +61,15 @@ module _ (a b : Claim) (conflict : conflicts a b ≡ true) where
   of_two_owners one =
       let other = not-true _ (and_parts (same_object a b.kind b.name) _ parts.0).1 in
       false≢true (sym other ∙ (same_owner-Decides a.owner b.owner).1 one)
+
+-- a call on an object of another kind doesn't concern a claim
+pub other_kind : (claim : Claim) (op : Op) → same_kind claim.kind (kind_of op) ≡ false
+    → concerns op claim ≡ false
+other_kind claim op apart = by (concern_of op.call)
+  where
+    by : (concern : Concern)
+        → (is_claim claim (claim_by (kind_of op) (name_of op) concern)
+        || (is_of_all concern && same_object claim (kind_of op) (name_of op))) ≡ false
+    by NoHold = refl
+    by (OwnHold mode owner lease) = rw apart refl
+    by AllHolds = rw apart refl

@@ -1,30 +1,17 @@
--- No two claims that conflict are held at once in a legal history: the laws of all kinds joined.
-use Rattle.std.proofs.Common.{◌≡◌, ℕ, ◌≤◌, List, true, false, refl, subst}
+-- No two claims that conflict are held at once in a legal history, where each kind has its law.
+use Rattle.std.proofs.Common.{◌≡◌, ℕ, ◌≤◌, List, true, subst}
 use Rattle.std.proofs.lemmas.Bool.{false_from_ne_true}
 use Rattle.lr_names.specs.Owner.{ThreadOfClient}
 use Rattle.lr_names.specs.declared.kind.Kind.{Kind}
-use Rattle.lr_names.specs.declared.kind.Kind.TheVariants.{Mutex, Fenced}
-use Rattle.lr_objects.specs.declared.op.Op.TheVariants.{LockTry}
 use Rattle.lr_model.specs.declared.entry.Entry.{Entry}
 use Rattle.lr_model.specs.History.{State, state_at_start, after, IsLegal}
-use Rattle.lr_model.specs.Tenure.{HoldMode, Claim, conflicts, concerns, no_tenure, tenure_after, holds_at, NoConflict}
+use Rattle.lr_model.specs.Claim.{HoldMode, Claim}
+use Rattle.lr_model.specs.Tenure.{conflicts, no_tenure, tenure_after, holds_at, NoConflict}
 use Rattle.lr_laws.proofs.Claims.{claim_on, on_one_object}
 use Rattle.lr_laws.proofs.ClaimLaws.{ClaimLaw, backed_after}
-use Rattle.lr_laws.proofs.Mutexes.{mutex_law}
-use Rattle.lr_laws.proofs.FencedLocks.{fenced_law}
-use Rattle.lr_laws.proofs.UnclaimedKinds.{unclaimed_law}
 
--- The law of each kind: a line for each, and the last for those on whose objects no call takes a
--- claim. A kind whose calls do gets its line above that, and a file of its own.
-law_of : (kind : Kind) → ClaimLaw kind
-law_of Mutex = mutex_law
-law_of Fenced = fenced_law
-law_of kind =
-    unclaimed_law kind
-    (λ name mode owner op. elim op as (λ o. concerns o (claim_on kind name mode owner) ≡ false)
-    [ LockTry _ _ _ ↦ refl | _ ↦ refl ])
-
-module _ (last : ℕ) (entries : List Entry) (legal : IsLegal (state_at_start last) entries) where
+module _ (law_of : (kind : Kind) → ClaimLaw kind) (last : ℕ) (entries : List Entry)
+    (legal : IsLegal (state_at_start last) entries) where
   abbrev first : State
   first = state_at_start last
 
@@ -53,7 +40,6 @@ module _ (last : ℕ) (entries : List Entry) (legal : IsLegal (state_at_start la
       (backed a.kind a.name a.mode a.owner moment later)
       (backed a.kind a.name b.mode b.owner moment later) held too
 
-pub no_conflict : (last : ℕ) (entries : List Entry)
-    → IsLegal (state_at_start last) entries → NoConflict (state_at_start last) entries
-no_conflict last entries legal a b moment later conflict held =
-    false_from_ne_true _ (apart last entries legal a b moment later conflict held)
+  pub no_conflict : NoConflict first entries
+  no_conflict a b moment later conflict held =
+      false_from_ne_true _ (apart a b moment later conflict held)

@@ -5,19 +5,22 @@ use Rattle.std.proofs.lemmas.Bool.{cond_both}
 use Rattle.lr_limits.specs.Limits.{token_limit}
 use Rattle.lr_names.specs.Owner.{ThreadOfClient}
 use Rattle.lr_names.specs.declared.kind.Kind.TheVariants.{Fenced}
-use Rattle.lr_objects.specs.declared.op.Op.{Op}
-use Rattle.lr_objects.specs.declared.op.Op.TheVariants.{FencedTry, FencedUnlock, FencedRenew, FencedToken}
+use Rattle.lr_objects.specs.Op.{call_on}
+use Rattle.lr_objects.specs.declared.kinds.Call.{Call}
+use Rattle.lr_objects.specs.declared.kinds.Call.TheVariants as calls
+use Rattle.lr_objects.specs.declared.fenced.FencedCall.TheVariants.{Try, Unlock, Renew, Token}
 use Rattle.lr_objects.specs.declared.reply.Reply.{Reply}
 use Rattle.lr_objects.specs.declared.reply.Reply.TheVariants.{Granted, TokensSpent}
 use Rattle.lr_model.specs.declared.hold.Hold.{Hold}
-use Rattle.lr_model.specs.Answer.{Objects, reply_of, objects_after}
+use Rattle.lr_model.specs.Answer.{Objects, objects_after}
 use Rattle.lr_model.specs.Fenced.{FencedLock, fenced_post, reply_with_token, with_token, take_fenced, fenced_try, fenced_unlock, fenced_renew}
 use Rattle.lr_model.specs.Hold.{live_hold, take_hold, give_back_hold, renew_hold}
 use Rattle.lr_model.specs.Outcome.{Outcome}
-use Rattle.lr_model.specs.Tenure.{HoldMode, Tenure, tenure_by_call, tenure_by_reply}
+use Rattle.lr_model.specs.Claim.{HoldMode}
+use Rattle.lr_model.specs.Tenure.{Tenure, tenure_by_reply}
 use Rattle.lr_laws.proofs.NameTables.{put_back}
 use Rattle.lr_laws.proofs.Claims.{claim_on, of_two_owners}
-use Rattle.lr_laws.proofs.ClaimLaws.{IsKept, ClaimLaw}
+use Rattle.lr_laws.proofs.ClaimLaws.{IsKept, ClaimLaw, tenure_by, unconcerned}
 use Rattle.lr_laws.proofs.Holds.{HoldsAsTold, live_hold-live}
 use Rattle.lr_laws.proofs.HoldSteps.{KeepsHolds, IsKeeping, silent_keeps, on_live_hold}
 use Rattle.lr_laws.proofs.HoldFunctions.{take_hold-keeps, give_back_hold-keeps, renew_hold-keeps}
@@ -91,29 +94,31 @@ module _ (name : List ℕ) (mode : HoldMode) (owner : ThreadOfClient) where
   Backs moment tenure objects =
       BacksAlone mode owner moment tenure (objects.fenced_locks name).held
 
-  by_call : (moment : ℕ) (op : Op) (tenure : Tenure) (objects : Objects)
+  by_call : (moment : ℕ) (key : List ℕ) (call : Call) (tenure : Tenure) (objects : Objects)
       → Backs moment tenure objects
       → Backs moment
-      (tenure_by_call (claim_on Fenced name mode owner) moment op (reply_of objects moment op)
-      tenure)
-      (objects_after objects moment op)
-  by_call moment (FencedTry key caller lease) tenure objects backs =
+      (tenure_by (claim_on Fenced name mode owner) moment (call_on key call) objects tenure)
+      (objects_after objects moment (call_on key call))
+  by_call moment key (calls.Fenced (Try caller lease)) tenure objects backs =
       alone_by_owner (λ lock. lock.held) objects.fenced_locks name owner moment tenure key
       (fenced_try moment caller lease (objects.fenced_locks key)) lease caller
       (fenced_try-keeps moment lease caller (objects.fenced_locks key)) mode backs
-  by_call moment (FencedUnlock key caller rest) tenure objects backs =
+  by_call moment key (calls.Fenced (Unlock caller rest)) tenure objects backs =
       alone_by_owner (λ lock. lock.held) objects.fenced_locks name owner moment tenure key
       (fenced_unlock key moment caller rest (objects.fenced_locks key)) rest caller
       (fenced_unlock-keeps moment rest caller (objects.fenced_locks key) key) mode backs
-  by_call moment (FencedRenew key caller lease) tenure objects backs =
+  by_call moment key (calls.Fenced (Renew caller lease)) tenure objects backs =
       alone_by_owner (λ lock. lock.held) objects.fenced_locks name owner moment tenure key
       (fenced_renew moment caller lease (objects.fenced_locks key)) lease caller
       (fenced_renew-keeps moment lease caller (objects.fenced_locks key)) mode backs
-  by_call moment (FencedToken key) tenure objects backs =
+  by_call moment key (calls.Fenced Token) tenure objects backs =
       subst (λ (lock : FencedLock). BacksAlone mode owner moment tenure lock.held)
       (sym (put_back objects.fenced_locks key name)) backs
   -- a call on an object of another kind leaves every lock alone
-  by_call moment op tenure objects backs = backs
+  by_call moment key call tenure objects backs =
+      subst (λ t. Backs moment t objects)
+      (sym (unconcerned (claim_on Fenced name mode owner) moment (call_on key call) objects tenure
+      refl)) backs
 
   -- its objects keep backing it
   pub fenced_kept : IsKept (claim_on Fenced name mode owner) Backs

@@ -4,7 +4,9 @@ use Rattle.std.specs.Str.{bytes_eq}
 use Rattle.std.proofs.lemmas.Bool.{cond_both}
 use Rattle.lr_limits.specs.Limits.{hold_limit, token_limit}
 use Rattle.lr_names.specs.Owner.{ThreadOfClient, same_owner}
-use Rattle.lr_objects.specs.declared.op.Op.TheVariants.{FencedTry, FencedUnlock, FencedRenew, FencedToken}
+use Rattle.lr_objects.specs.Op.{call_on}
+use Rattle.lr_objects.specs.declared.kinds.Call.TheVariants.{Fenced}
+use Rattle.lr_objects.specs.declared.fenced.FencedCall.TheVariants.{Try, Unlock, Renew, Token}
 use Rattle.lr_model.specs.declared.entry.Entry.{Entry}
 use Rattle.lr_model.specs.declared.hold.Hold.{Hold}
 use Rattle.lr_model.specs.Answer.{Objects}
@@ -39,7 +41,7 @@ module _ (name : List ℕ) where
     -- after a try on the lock of the key, so answered, it still agrees
     abbrev StillAgrees : Outcome FencedLock → Type 0
     StillAgrees outcome =
-        HasLast (token_by_reply name (FencedTry key owner lease) outcome.reply last)
+        HasLast (token_by_reply name (call_on key (Fenced (Try owner lease))) outcome.reply last)
         (put bytes_eq objects.fenced_locks key outcome.object name)
 
     -- a grant tells the token that the lock then has
@@ -83,24 +85,24 @@ module _ (name : List ℕ) where
 
   -- calls keep it
   kept : IsToldThroughout (token_by_reply name) Agrees
-  kept moment (FencedTry key owner lease) last objects agrees =
+  kept moment key (Fenced (Try owner lease)) last objects agrees =
       tried objects last agrees key moment owner lease (objects.fenced_locks key)
       (agrees_here HasLast objects.fenced_locks name key last agrees)
-  kept moment (FencedUnlock key owner rest) last objects agrees =
+  kept moment key (Fenced (Unlock owner rest)) last objects agrees =
       told_nothing HasLast objects.fenced_locks name key last agrees
       (fenced_unlock key moment owner rest (objects.fenced_locks key)).object
       (λ here. same_token rest (objects.fenced_locks key) _
       ∙ agrees_here HasLast objects.fenced_locks name key last agrees here)
-  kept moment (FencedRenew key owner lease) last objects agrees =
+  kept moment key (Fenced (Renew owner lease)) last objects agrees =
       told_nothing HasLast objects.fenced_locks name key last agrees
       (fenced_renew moment owner lease (objects.fenced_locks key)).object
       (λ here. same_token lease (objects.fenced_locks key) _
       ∙ agrees_here HasLast objects.fenced_locks name key last agrees here)
-  kept moment (FencedToken key) last objects agrees =
+  kept moment key (Fenced Token) last objects agrees =
       told_nothing HasLast objects.fenced_locks name key last agrees (objects.fenced_locks key)
       (agrees_here HasLast objects.fenced_locks name key last agrees)
   -- a call on an object of another kind
-  kept moment op last objects agrees = agrees
+  kept moment key call last objects agrees = agrees
 
   -- so after a history the token is the last that was told
   pub is_last : (connections : ℕ) (entries : List Entry)

@@ -8,7 +8,8 @@ use Rattle.lr_names.specs.Owner.{ThreadOfClient, same_owner}
 use Rattle.lr_model.specs.declared.hold.Hold.{Hold}
 use Rattle.lr_model.specs.Outcome.{Outcome}
 use Rattle.lr_model.specs.Table.{put}
-use Rattle.lr_model.specs.Tenure.{HoldMode, Exclusive, Shared, Tenure, is_current, no_tenure, same_mode, tenure_by_reply}
+use Rattle.lr_model.specs.Claim.{HoldMode, Exclusive, Shared, same_mode}
+use Rattle.lr_model.specs.Tenure.{Tenure, is_current, no_tenure, tenure_by_reply}
 use Rattle.lr_laws.proofs.Owners.{same_owner-Decides}
 use Rattle.lr_laws.proofs.NameTables.{bytes_eq-sym}
 use Rattle.lr_laws.proofs.Holds.{HoldsAsTold, held_later, without_tenure, one_owner}

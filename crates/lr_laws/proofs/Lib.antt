@@ -7,6 +7,8 @@ pub mod HoldSteps
 pub mod HoldFunctions
 pub mod HoldTables
 pub mod Mutexes
+pub mod ReadWriteHoldSteps
+pub mod ReadWriteLocks
 pub mod FencedLocks
 pub mod UnclaimedKinds
 pub mod Conflicts
@@ -16,6 +18,7 @@ pub mod Semaphores
 pub mod Latches
 pub mod FencedTokens
 pub mod Tokens
+pub mod KindTable
 pub mod QuietBoards
 pub mod Worlds
 pub mod Schedules

@@ -1,18 +1,20 @@
 -- The law of the reentrant lock: a current tenure of a claim on a lock is the hold that the lock
 -- has, with its deadline.
-use Rattle.std.proofs.Common.{ℕ, List, Option, Some}
+use Rattle.std.proofs.Common.{ℕ, List, Option, Some, refl, sym, subst}
 use Rattle.lr_names.specs.Owner.{ThreadOfClient}
 use Rattle.lr_names.specs.declared.kind.Kind.TheVariants.{Mutex}
-use Rattle.lr_objects.specs.declared.op.Op.{Op}
-use Rattle.lr_objects.specs.declared.op.Op.TheVariants.{LockTry, LockUnlock, LockRenew}
-use Rattle.lr_objects.specs.Op.{name_of}
+use Rattle.lr_objects.specs.Op.{call_on}
+use Rattle.lr_objects.specs.declared.kinds.Call.{Call}
+use Rattle.lr_objects.specs.declared.kinds.Call.TheVariants as calls
+use Rattle.lr_objects.specs.declared.lock.LockCall.TheVariants.{Try, Unlock, Renew, Force}
 use Rattle.lr_model.specs.declared.hold.Hold.{Hold}
-use Rattle.lr_model.specs.Answer.{Objects, reply_of, objects_after}
+use Rattle.lr_model.specs.Answer.{Objects, objects_after}
 use Rattle.lr_model.specs.Hold.{live_hold}
 use Rattle.lr_model.specs.Mutex.{lock_post, lock_try, lock_unlock, lock_renew, lock_force}
-use Rattle.lr_model.specs.Tenure.{HoldMode, Tenure, tenure_by_call}
+use Rattle.lr_model.specs.Claim.{HoldMode}
+use Rattle.lr_model.specs.Tenure.{Tenure}
 use Rattle.lr_laws.proofs.Claims.{claim_on, of_two_owners}
-use Rattle.lr_laws.proofs.ClaimLaws.{ClaimLaw}
+use Rattle.lr_laws.proofs.ClaimLaws.{ClaimLaw, tenure_by, unconcerned}
 use Rattle.lr_laws.proofs.Holds.{live_hold-live}
 use Rattle.lr_laws.proofs.HoldSteps.{IsKeeping, on_live_hold}
 use Rattle.lr_laws.proofs.HoldFunctions.{take_hold-keeps, give_back_hold-keeps, renew_hold-keeps, end_hold-ends}
@@ -41,31 +43,32 @@ module _ (name : List ℕ) (mode : HoldMode) (owner : ThreadOfClient) where
   abbrev Backs : ℕ → Tenure → Objects → Type 0
   Backs moment tenure objects = BacksAlone mode owner moment tenure (objects.mutexes name)
 
-  by_call : (moment : ℕ) (op : Op) (tenure : Tenure) (objects : Objects)
+  by_call : (moment : ℕ) (key : List ℕ) (call : Call) (tenure : Tenure) (objects : Objects)
       → Backs moment tenure objects
       → Backs moment
-      (tenure_by_call (claim_on Mutex name mode owner) moment op (reply_of objects moment op)
-      tenure)
-      (objects_after objects moment op)
-  by_call moment (LockTry key caller lease) tenure objects backs =
+      (tenure_by (claim_on Mutex name mode owner) moment (call_on key call) objects tenure)
+      (objects_after objects moment (call_on key call))
+  by_call moment key (calls.Lock (Try caller lease)) tenure objects backs =
       alone_by_owner (λ lock. lock) objects.mutexes name owner moment tenure key
       (lock_try moment caller lease (objects.mutexes key)) lease caller
       (lock_try-keeps moment caller lease (objects.mutexes key)) mode backs
-  by_call moment (LockUnlock key caller rest) tenure objects backs =
+  by_call moment key (calls.Lock (Unlock caller rest)) tenure objects backs =
       alone_by_owner (λ lock. lock) objects.mutexes name owner moment tenure key
       (lock_unlock key moment caller rest (objects.mutexes key)) rest caller
       (lock_unlock-keeps moment caller rest (objects.mutexes key) key) mode backs
-  by_call moment (LockRenew key caller lease) tenure objects backs =
+  by_call moment key (calls.Lock (Renew caller lease)) tenure objects backs =
       alone_by_owner (λ lock. lock) objects.mutexes name owner moment tenure key
       (lock_renew moment caller lease (objects.mutexes key)) lease caller
       (lock_renew-keeps moment caller lease (objects.mutexes key)) mode backs
-  -- a forced end of holds, and a call on an object of another kind, which leaves every lock alone
-  by_call moment op tenure objects backs =
-      let key : List ℕ = name_of op in
-      let forced = alone_by_operator (λ lock. lock) objects.mutexes name owner moment tenure key
+  by_call moment key (calls.Lock Force) tenure objects backs =
+      alone_by_operator (λ lock. lock) objects.mutexes name owner moment tenure key
       (lock_force key moment (objects.mutexes key))
-      (end_hold-ends moment (Some (lock_post key)) (objects.mutexes key)) mode backs in
-      assumption (forced, backs)
+      (end_hold-ends moment (Some (lock_post key)) (objects.mutexes key)) mode backs
+  -- a call on an object of another kind leaves every lock alone
+  by_call moment key call tenure objects backs =
+      subst (λ t. Backs moment t objects)
+      (sym (unconcerned (claim_on Mutex name mode owner) moment (call_on key call) objects tenure
+      refl)) backs
 
 pub mutex_law : ClaimLaw Mutex
 mutex_law = record {

@@ -4,7 +4,7 @@ use Rattle.std.proofs.lemmas.Bool.{false≢true, le-leb}
 use Rattle.lr_names.specs.declared.post.Post.{Post}
 use Rattle.lr_model.specs.Board.{Board, Connection, new_connection, closed_connection, board_after_post, connection_after_post}
 use Rattle.lr_model.specs.History.{CanCall}
-use Rattle.lr_model.specs.World.{first_state}
+use Rattle.lr_steps.specs.World.{first_state}
 
 -- a board on which all connections are as they are at the start
 abbrev pub IsQuiet : Board → Type 0

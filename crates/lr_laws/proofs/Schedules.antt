@@ -1,11 +1,13 @@
 -- Every schedule within the limits goes well, and each front of it.
 use Rattle.std.proofs.Common.{◌≡◌, List, [], ◌∷◌, ◌++◌, sym, ap, ◌∙◌, subst, append_assoc, append-nil}
 use Rattle.std.specs.List.{AllByRecursion}
-use Rattle.lr_model.specs.declared.event.Event.{Event}
-use Rattle.lr_model.specs.Sound.{GoesWell, GoesWellThroughout}
-use Rattle.lr_model.specs.Within.{IsWithin}
-use Rattle.lr_model.specs.World.{World, Deed, first_world, next, world_after, deeds_of, deeds_by, deeds_of_event, deeds_made}
-use Rattle.lr_laws.proofs.Worlds.{InOrder, InOrder-first_world, InOrder-next, IsSound-from_order, deeds_of-next}
+use Rattle.lr_steps.specs.declared.event.Event.{Event}
+use Rattle.lr_steps.specs.Sound.{GoesWell, GoesWellThroughout}
+use Rattle.lr_steps.specs.Within.{IsWithin}
+use Rattle.lr_steps.specs.World.{World, first_world, next, world_after, deeds_of_event, deeds_made}
+use Rattle.lr_model.specs.History.{Deed, deeds_of, deeds_by}
+use Rattle.lr_laws.proofs.KindTable.{IsSound-from_order}
+use Rattle.lr_laws.proofs.Worlds.{InOrder, InOrder-first_world, InOrder-next, deeds_of-next}
 
 pub InOrder-world_after : (events : List Event) (world : World)
     → AllByRecursion IsWithin events → InOrder world → InOrder (world_after world events)

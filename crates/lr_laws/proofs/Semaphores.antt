@@ -5,11 +5,13 @@ use Rattle.std.specs.Str.{bytes_eq}
 use Rattle.std.proofs.lemmas.Bool.{cond_both}
 use Rattle.std.proofs.lemmas.Bool.Decides.{nat_tests}
 use Rattle.lr_limits.specs.Limits.{amount_limit}
-use Rattle.lr_objects.specs.declared.op.Op.{Op}
-use Rattle.lr_objects.specs.declared.op.Op.TheVariants.{SemSet, SemTry, SemRelease, SemCount}
+use Rattle.lr_objects.specs.Op.{call_on}
+use Rattle.lr_objects.specs.declared.kinds.Call.TheVariants.{Semaphore}
+use Rattle.lr_objects.specs.declared.semaphore.SemaphoreCall.{SemaphoreCall}
+use Rattle.lr_objects.specs.declared.semaphore.SemaphoreCall.TheVariants.{Set, Try, Release, Count}
 use Rattle.lr_model.specs.declared.entry.Entry.{Entry}
 use Rattle.lr_model.specs.Answer.{Objects}
-use Rattle.lr_model.specs.Counts.{PermitSums, no_permits, with_given, with_granted, sums_by_reply, NeverOvergranted}
+use Rattle.lr_model.specs.SemaphoreCounts.{PermitSums, no_permits, with_given, with_granted, sums_by_reply, NeverOvergranted}
 use Rattle.lr_model.specs.History.{state_at_start}
 use Rattle.lr_model.specs.Outcome.{Outcome}
 use Rattle.lr_model.specs.Semaphore.{free_permits, sem_set, sem_try, sem_release}
@@ -23,9 +25,9 @@ AddsUp sums semaphore = free_permits semaphore + sums.granted ≡ sums.given
 module _ (name : List ℕ) (objects : Objects) (sums : PermitSums)
     (agrees : AddsUp sums (objects.semaphores name)) (key : List ℕ) (number : ℕ) where
   -- after a call on the semaphore of the key, so answered, it still adds up
-  abbrev StillAddsUp : Op → Outcome (Option ℕ) → Type 0
-  StillAddsUp op outcome =
-      AddsUp (sums_by_reply name op outcome.reply sums)
+  abbrev StillAddsUp : SemaphoreCall → Outcome (Option ℕ) → Type 0
+  StillAddsUp call outcome =
+      AddsUp (sums_by_reply name (call_on key (Semaphore call)) outcome.reply sums)
       (put bytes_eq objects.semaphores key outcome.object name)
 
   -- what is known of it before the call, where it is this one
@@ -45,25 +47,25 @@ module _ (name : List ℕ) (objects : Objects) (sums : PermitSums)
 
   -- setting the number, taking, and releasing
   set : (semaphore : Option ℕ) → IsKnown semaphore
-      → StillAddsUp (SemSet key number) (sem_set key number semaphore)
+      → StillAddsUp (Set number) (sem_set key number semaphore)
   set None known =
       more (with_given number sums) (Some number) (λ here. omega (arith, known here))
   set (Some free) known = nothing (Some free) known
 
   taken : (semaphore : Option ℕ) → IsKnown semaphore
-      → StillAddsUp (SemTry key number) (sem_try number semaphore)
+      → StillAddsUp (Try number) (sem_try number semaphore)
   taken None known = nothing None known
   taken (Some free) known =
-      cond_both (nat_le number free) _ _ (StillAddsUp (SemTry key number))
+      cond_both (nat_le number free) _ _ (StillAddsUp (Try number))
       (λ enough. more (with_granted number sums) (Some (free - number))
       (λ here. grind (arith, nat_tests, enough, known here)))
       (λ short. nothing (Some free) known)
 
   released : (semaphore : Option ℕ) → IsKnown semaphore
-      → StillAddsUp (SemRelease key number) (sem_release key number semaphore)
+      → StillAddsUp (Release number) (sem_release key number semaphore)
   released semaphore known =
       cond_both (nat_le (free_permits semaphore + number) amount_limit) _ _
-      (StillAddsUp (SemRelease key number))
+      (StillAddsUp (Release number))
       (λ fits. more (with_given number sums) (Some (free_permits semaphore + number))
       (λ here. omega (arith, known here)))
       (λ over. nothing semaphore known)
@@ -74,20 +76,20 @@ module _ (name : List ℕ) where
   Agrees sums objects = AddsUp sums (objects.semaphores name)
 
   kept : IsToldThroughout (sums_by_reply name) Agrees
-  kept moment (SemSet key number) sums objects agrees =
+  kept moment key (Semaphore (Set number)) sums objects agrees =
       set name objects sums agrees key number (objects.semaphores key)
       (agrees_here AddsUp objects.semaphores name key sums agrees)
-  kept moment (SemTry key number) sums objects agrees =
+  kept moment key (Semaphore (Try number)) sums objects agrees =
       taken name objects sums agrees key number (objects.semaphores key)
       (agrees_here AddsUp objects.semaphores name key sums agrees)
-  kept moment (SemRelease key number) sums objects agrees =
+  kept moment key (Semaphore (Release number)) sums objects agrees =
       released name objects sums agrees key number (objects.semaphores key)
       (agrees_here AddsUp objects.semaphores name key sums agrees)
-  kept moment (SemCount key) sums objects agrees =
+  kept moment key (Semaphore Count) sums objects agrees =
       nothing name objects sums agrees key 0 (objects.semaphores key)
       (agrees_here AddsUp objects.semaphores name key sums agrees)
   -- a call on an object of another kind
-  kept moment op sums objects agrees = agrees
+  kept moment key call sums objects agrees = agrees
 
 -- so of what was given no more was granted
 pub never_overgranted : (last : ℕ) (entries : List Entry)

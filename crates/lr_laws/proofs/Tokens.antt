@@ -12,7 +12,8 @@ use Rattle.lr_model.specs.History.{State, state_at_start, after, IsLegal}
 use Rattle.lr_model.specs.Hold.{live_hold}
 use Rattle.lr_model.specs.Moment.{is_lease}
 use Rattle.lr_model.specs.Outcome.{Outcome}
-use Rattle.lr_model.specs.Tenure.{Exclusive, Tenure, is_current, no_tenure, tenure_after}
+use Rattle.lr_model.specs.Claim.{Exclusive}
+use Rattle.lr_model.specs.Tenure.{Tenure, is_current, no_tenure, tenure_after}
 use Rattle.lr_model.specs.Tokens.{fenced_claim, TokensGrow}
 use Rattle.lr_laws.proofs.ClaimLaws.{backed_after}
 use Rattle.lr_laws.proofs.FencedLocks.{Backs, fenced_kept}

@@ -3,10 +3,12 @@
 use Rattle.std.proofs.Common.{◌≡◌, ℕ, List, [], ◌∷◌, true, if◌then◌else◌, subst}
 use Rattle.std.specs.Str.{bytes_eq}
 use Rattle.std.proofs.lemmas.Slice.Eq.{bytes_eq-Decides}
+use Rattle.lr_objects.specs.Op.{call_on}
+use Rattle.lr_objects.specs.declared.kinds.Call.{Call}
 use Rattle.lr_objects.specs.declared.op.Op.{Op}
 use Rattle.lr_objects.specs.declared.reply.Reply.{Reply}
 use Rattle.lr_model.specs.declared.entry.Act.{Act}
-use Rattle.lr_model.specs.declared.entry.Act.TheVariants.{Call}
+use Rattle.lr_model.specs.declared.entry.Act.TheVariants as acts
 use Rattle.lr_model.specs.declared.entry.Entry.{Entry}
 use Rattle.lr_model.specs.Answer.{Objects, reply_of, objects_after}
 use Rattle.lr_model.specs.History.{State, step, after, objects_by}
@@ -14,11 +16,16 @@ use Rattle.lr_model.specs.Table.{put}
 use Rattle.lr_model.specs.Told.{told_by_act, told_after}
 use Rattle.lr_laws.proofs.NameTables.{put_at}
 
+-- what is told by the reply to a call on these objects
+abbrev pub told_by : {X : Type 0} → (Op → Reply → X → X) → ℕ → Op → Objects → X → X
+told_by by_reply moment op objects known = by_reply op (reply_of objects moment op) known
+
 -- calls keep the objects in agreement with what is told
 abbrev pub IsToldThroughout : {X : Type 0} → (Op → Reply → X → X) → (X → Objects → Type 0) → Type 0
 IsToldThroughout {X} by_reply Agrees =
-    (moment : ℕ) (op : Op) (known : X) (objects : Objects) → Agrees known objects
-    → Agrees (by_reply op (reply_of objects moment op) known) (objects_after objects moment op)
+    (moment : ℕ) (key : List ℕ) (call : Call) (known : X) (objects : Objects) → Agrees known objects
+    → Agrees (told_by by_reply moment (call_on key call) objects known)
+    (objects_after objects moment (call_on key call))
 
 module _ {X : Type 0} (by_reply : Op → Reply → X → X) (Agrees : X → Objects → Type 0)
     (kept : IsToldThroughout by_reply Agrees) where
@@ -26,7 +33,8 @@ module _ {X : Type 0} (by_reply : Op → Reply → X → X) (Agrees : X → Obje
   by_act : (state : State) (moment : ℕ) (act : Act) (known : X)
       → Agrees known state.objects
       → Agrees (told_by_act by_reply state moment act known) (objects_by state moment act)
-  by_act state moment (Call op) known agrees = kept moment op known state.objects agrees
+  by_act state moment (acts.Call op) known agrees =
+      kept moment op.name op.call known state.objects agrees
   by_act state moment _ known agrees = agrees
 
   -- so a history keeps it

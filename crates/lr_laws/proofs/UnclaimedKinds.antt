@@ -4,8 +4,10 @@ use Rattle.std.proofs.Common.{◌≡◌, List, ℕ, false, sym, ap, ◌∙◌, r
 use Rattle.std.proofs.lemmas.Bool.{false≢true, cond-false}
 use Rattle.lr_names.specs.Owner.{ThreadOfClient}
 use Rattle.lr_names.specs.declared.kind.Kind.{Kind}
+use Rattle.lr_objects.specs.Op.{call_on}
 use Rattle.lr_objects.specs.declared.op.Op.{Op}
-use Rattle.lr_model.specs.Tenure.{HoldMode, Tenure, is_current, no_tenure, concerns}
+use Rattle.lr_model.specs.Claim.{HoldMode}
+use Rattle.lr_model.specs.Tenure.{Tenure, is_current, no_tenure, concerns}
 use Rattle.lr_laws.proofs.Claims.{claim_on}
 use Rattle.lr_laws.proofs.ClaimLaws.{ClaimLaw}
 
@@ -21,8 +23,8 @@ unclaimed_law kind unclaimed = record {
   kept = λ name mode owner. record {
     at_start = refl;
     by_time = λ m n tenure objects le none. none;
-    by_call = λ moment op tenure objects none.
-        cond-false _ _ tenure (unclaimed name mode owner op) ∙ none;
+    by_call = λ moment key call tenure objects none.
+        cond-false _ _ tenure (unclaimed name mode owner (call_on key call)) ∙ none;
   };
   apart = λ name m n o p conflict moment t u objects none others of_first of_second.
       false≢true (sym (ap (λ (x : Tenure). is_current x moment) none) ∙ of_first);

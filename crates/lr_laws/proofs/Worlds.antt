@@ -1,21 +1,16 @@
 -- The world after an event: its history is in order, and has what the event made the server do.
 use Rattle.std.proofs.Common.{◌≡◌, ℕ, ◌+◌, ◌≤◌, List, [], ◌∷◌, ◌++◌, length, Option, Some, None, refl, sym, ap, ◌∙◌, subst, arith, append-nil, length-append}
 use Rattle.lr_objects.specs.declared.op.Op.{Op}
-use Rattle.lr_objects.specs.declared.op.Op.TheVariants.{LockForce}
 use Rattle.lr_model.specs.declared.entry.Entry.{Entry}
-use Rattle.lr_model.specs.declared.event.Event.{Event}
-use Rattle.lr_model.specs.declared.event.Event.TheVariants.{Begin, Ask, Exec, Take, Tick, Force}
-use Rattle.lr_model.specs.declared.waiter.Asking.{Asking}
+use Rattle.lr_steps.specs.declared.event.Event.{Event}
+use Rattle.lr_steps.specs.declared.event.Event.TheVariants.{Begin, Ask, Exec, Take, Tick, Force}
+use Rattle.lr_steps.specs.declared.waiter.Asking.{Asking}
 use Rattle.lr_model.specs.Answer.{post_of}
-use Rattle.lr_model.specs.History.{State, step, after, CanCall, MayFollow}
-use Rattle.lr_model.specs.Sound.{IsInOrder, IsSound}
-use Rattle.lr_model.specs.Within.{IsWithin, IsClient}
-use Rattle.lr_model.specs.World.{World, first_state, first_world, call_entry, caller_of, command_connection, operator, operator_connection, asked_of, waiter_of, next_exec, next, deeds_of, deeds_of_exec, deeds_of_event}
+use Rattle.lr_model.specs.History.{State, step, after, CanCall, MayFollow, call_entry, deeds_of}
+use Rattle.lr_steps.specs.Sound.{IsInOrder}
+use Rattle.lr_steps.specs.Within.{IsWithin, IsClient}
+use Rattle.lr_steps.specs.World.{World, first_state, first_world, force_of, caller_of, command_connection, operator, operator_connection, asked_of, waiter_of, next_exec, next, deeds_of_exec, deeds_of_event}
 use Rattle.lr_model.proofs.Histories.{after-push, IsLegal-push, deeds_of-push}
-use Rattle.lr_laws.proofs.Conflicts.{no_conflict}
-use Rattle.lr_laws.proofs.Tokens.{tokens_grow}
-use Rattle.lr_laws.proofs.Semaphores.{never_overgranted}
-use Rattle.lr_laws.proofs.Latches.{counts_down}
 use Rattle.lr_laws.proofs.QuietBoards.{IsQuiet-after_post, CanCall-at_start}
 
 -- the history of a world is in order
@@ -24,17 +19,6 @@ InOrder world = IsInOrder world.entries world.moment
 
 pub InOrder-first_world : InOrder first_world
 InOrder-first_world = record { legal = tt; in_time = omega arith; quiet = λ conn. refl }
-
--- a world whose history is in order is sound
-pub IsSound-from_order : (world : World) → InOrder world → IsSound world
-IsSound-from_order world order = record {
-  legal = order.legal;
-  in_time = order.in_time;
-  exclusive = no_conflict 128 world.entries order.legal;
-  tokens = tokens_grow 128 world.entries order.legal;
-  permits = never_overgranted 128 world.entries;
-  counts = counts_down 128 world.entries;
-}
 
 -- one call more
 pub IsInOrder-push : (entries : List Entry) (moment caller conn : ℕ) (op : Op)
@@ -81,7 +65,7 @@ InOrder-next world (Take c t) within order = order
 InOrder-next world (Tick moment) within order =
     record { legal = order.legal; in_time = omega (arith, order.in_time); quiet = order.quiet }
 InOrder-next world (Force name) within order =
-    IsInOrder-push world.entries world.moment operator operator_connection (LockForce name)
+    IsInOrder-push world.entries world.moment operator operator_connection (force_of name)
     (omega arith) order
 
 deeds_of-next_exec : (world : World) (c t : ℕ) (asking : Option Asking)
@@ -103,7 +87,7 @@ deeds_of-next world (Take c t) = sym (append-nil (deeds_of world.entries))
 deeds_of-next world (Tick moment) = sym (append-nil (deeds_of world.entries))
 deeds_of-next world (Force name) =
     deeds_of-push world.entries
-    (call_entry world.moment operator operator_connection (LockForce name))
+    (call_entry world.moment operator operator_connection (force_of name))
 
 one_more : (entries : List Entry) (entry : Entry)
     → length (entries ++ entry ∷ []) ≤ length entries + 1

@@ -2,9 +2,14 @@
 //! function with an empty body, and its clause is what is proved.
 #![tactic(auto)]
 
+mod countdown_laws;
+mod fenced_laws;
 mod laws;
+mod semaphore_laws;
 
+pub use countdown_laws::latches_count_down;
+pub use fenced_laws::tokens_strictly_grow;
 pub use laws::{
-    every_schedule_goes_well, every_schedule_goes_well_throughout, latches_count_down,
-    semaphores_never_grant_more_than_there_is, tenures_never_conflict, tokens_strictly_grow,
+    every_schedule_goes_well, every_schedule_goes_well_throughout, tenures_never_conflict,
 };
+pub use semaphore_laws::semaphores_never_grant_more_than_there_is;

@@ -1,8 +1,7 @@
 -- Histories that grow by an entry.
 use Rattle.std.proofs.Common.{◌≡◌, ℕ, List, [], ◌∷◌, ◌++◌, Bool, true, false, if◌then◌else◌, ◌==◌, refl, ap}
 use Rattle.lr_model.specs.declared.entry.Entry.{Entry}
-use Rattle.lr_model.specs.History.{State, step, after, MayFollow, IsLegal}
-use Rattle.lr_model.specs.World.{Deed, deeds_of, deeds_by}
+use Rattle.lr_model.specs.History.{State, step, after, MayFollow, IsLegal, Deed, deeds_of, deeds_by}
 
 pub after-push : (state : State) (entries : List Entry) (entry : Entry) → after state (entries ++ entry ∷ []) ≡ step (after state entries) entry
 after-push state [] entry = refl

@@ -3,6 +3,8 @@ use Rattle.std.specs.Prelude.{ℕ, ◌-◌, ◌==◌, List, Some, None, if◌the
 use Rattle.lr_names.specs.Post.{post_to}
 use Rattle.lr_names.specs.declared.kind.Kind.TheVariants.{Countdown}
 use Rattle.lr_names.specs.declared.post.Post.{Post}
+use Rattle.lr_objects.specs.declared.countdown.CountdownCall.{CountdownCall}
+use Rattle.lr_objects.specs.declared.countdown.CountdownCall.TheVariants as calls
 use Rattle.lr_objects.specs.declared.reply.Reply.TheVariants.{Set, AlreadySet, Count}
 use Rattle.lr_model.specs.Outcome.{Outcome, silent_outcome}
 
@@ -26,3 +28,9 @@ latch_down name count = record {
 -- the count
 abbrev pub latch_count : ℕ → Outcome ℕ
 latch_count count = silent_outcome (Count count) count
+
+-- what a call makes of the latch of this name
+abbrev pub countdown_call : List ℕ → CountdownCall → ℕ → Outcome ℕ
+countdown_call name (calls.Set number) = latch_set number
+countdown_call name calls.Down = latch_down name
+countdown_call name calls.Count = latch_count

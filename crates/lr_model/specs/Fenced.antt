@@ -7,9 +7,12 @@ use Rattle.lr_names.specs.Owner.{ThreadOfClient}
 use Rattle.lr_names.specs.Post.{post_to}
 use Rattle.lr_names.specs.declared.kind.Kind.TheVariants.{Fenced}
 use Rattle.lr_names.specs.declared.post.Post.{Post}
+use Rattle.lr_objects.specs.declared.fenced.FencedCall.{FencedCall}
+use Rattle.lr_objects.specs.declared.fenced.FencedCall.TheVariants.{Try, Unlock, Renew, Token}
 use Rattle.lr_objects.specs.declared.reply.Reply.{Reply}
 use Rattle.lr_objects.specs.declared.reply.Reply.TheVariants.{Granted, GrantedToken, Count, TokensSpent}
 use Rattle.lr_model.specs.declared.hold.Hold.{Hold}
+use Rattle.lr_model.specs.Claim.{Concern, NoHold, OwnHold, Exclusive}
 use Rattle.lr_model.specs.Hold.{live_hold, take_hold, give_back_hold, renew_hold}
 use Rattle.lr_model.specs.Outcome.{Outcome, silent_outcome, with_lease}
 
@@ -66,3 +69,17 @@ fenced_renew moment owner lease lock =
 -- the last token
 abbrev pub fenced_token : FencedLock → Outcome FencedLock
 fenced_token lock = silent_outcome (Count lock.token) lock
+
+-- what a call makes of the lock of this name
+abbrev pub fenced_call : List ℕ → ℕ → FencedCall → FencedLock → Outcome FencedLock
+fenced_call name moment (Try owner lease) = fenced_try moment owner lease
+fenced_call name moment (Unlock owner rest) = fenced_unlock name moment owner rest
+fenced_call name moment (Renew owner lease) = fenced_renew moment owner lease
+fenced_call name moment Token = fenced_token
+
+-- owners hold it alone
+abbrev pub fenced_concern : FencedCall → Concern
+fenced_concern (Try owner lease) = OwnHold Exclusive owner lease
+fenced_concern (Unlock owner rest) = OwnHold Exclusive owner rest
+fenced_concern (Renew owner lease) = OwnHold Exclusive owner lease
+fenced_concern Token = NoHold

@@ -1,7 +1,8 @@
--- The state of the server after each entry of its history, what each entry gave, and which
--- histories are legal.
-use Rattle.std.specs.Prelude.{◌≡◌, ◌≢◌, ℕ, ◌≤◌, nat_le, List, [], ◌∷◌, length, take, IsTrue, false, Some, if◌then◌else◌, unwrap_or, slice_get}
+-- The state of the server after each entry of its history, what each entry gave, which histories
+-- are legal, and who acts in them.
+use Rattle.std.specs.Prelude.{◌≡◌, ◌≢◌, ℕ, ◌≤◌, ◌==◌, nat_le, List, [], ◌∷◌, length, take, IsTrue, false, Some, if◌then◌else◌, unwrap_or, slice_get}
 use Rattle.lr_names.specs.declared.post.Push.{Push}
+use Rattle.lr_objects.specs.declared.op.Op.{Op}
 use Rattle.lr_objects.specs.declared.reply.Reply.{Reply}
 use Rattle.lr_model.specs.declared.entry.Act.{Act}
 use Rattle.lr_model.specs.declared.entry.Act.TheVariants.{Call, Subscribe, Unsubscribe, Open, Close, Drain}
@@ -126,3 +127,32 @@ pub record MayFollow (state : State) (entry : Entry) : Type 0 where
 abbrev pub IsLegal : State → List Entry → Type 0
 IsLegal state [] = Unit {0}
 IsLegal state (entry ∷ entries) = MayFollow state entry × IsLegal (step state entry) entries
+
+-- Who acts in a history, on which connection, and how.
+
+-- an act, with its caller and its connection
+pub record Deed : Type 0 where
+  pub caller : ℕ
+  pub conn : ℕ
+  pub act : Act
+
+-- the deeds of a history
+abbrev pub deeds_of : List Entry → List Deed
+deeds_of [] = []
+deeds_of (entry ∷ entries) =
+    record { caller = entry.caller; conn = entry.conn; act = entry.act } ∷ deeds_of entries
+
+-- those of one caller among these, in order
+abbrev pub deeds_by : ℕ → List Deed → List Deed
+deeds_by caller [] = []
+deeds_by caller (deed ∷ deeds) =
+    if deed.caller == caller then deed ∷ deeds_by caller deeds else deeds_by caller deeds
+
+-- the entry of an act
+abbrev pub entry_of : ℕ → ℕ → ℕ → Act → Entry
+entry_of moment caller conn act =
+    record { moment = moment; caller = caller; conn = conn; act = act }
+
+-- the entry that a call makes
+abbrev pub call_entry : ℕ → ℕ → ℕ → Op → Entry
+call_entry moment caller conn op = entry_of moment caller conn (Call op)

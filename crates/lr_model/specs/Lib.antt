@@ -1,9 +1,12 @@
 pub mod Moment
 pub mod Table
 pub mod Outcome
+pub mod Claim
 pub mod Hold
 pub mod Mutex
 pub mod Fenced
+pub mod ReadWrite
+pub mod ReadWriteHolds
 pub mod Semaphore
 pub mod Countdown
 pub mod Answer
@@ -12,11 +15,6 @@ pub mod History
 pub mod Tenure
 pub mod Told
 pub mod Tokens
-pub mod Counts
-pub mod World
-pub mod Within
-pub mod EventText
-pub mod Transcript
-pub mod Sound
+pub mod SemaphoreCounts
+pub mod CountdownCounts
 pub mod Values
-pub mod WaiterValue

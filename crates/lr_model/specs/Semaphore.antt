@@ -5,6 +5,8 @@ use Rattle.lr_limits.specs.Limits.{amount_limit}
 use Rattle.lr_names.specs.Post.{post_to}
 use Rattle.lr_names.specs.declared.kind.Kind.TheVariants.{Semaphore}
 use Rattle.lr_names.specs.declared.post.Post.{Post}
+use Rattle.lr_objects.specs.declared.semaphore.SemaphoreCall.{SemaphoreCall}
+use Rattle.lr_objects.specs.declared.semaphore.SemaphoreCall.TheVariants as calls
 use Rattle.lr_objects.specs.declared.reply.Reply.TheVariants.{Granted, Short, Set, AlreadySet, Count, TooMany}
 use Rattle.lr_model.specs.Outcome.{Outcome, silent_outcome}
 
@@ -44,3 +46,10 @@ sem_release name number semaphore =
 -- how many are free
 abbrev pub sem_count : Option ℕ → Outcome (Option ℕ)
 sem_count semaphore = silent_outcome (Count (free_permits semaphore)) semaphore
+
+-- what a call makes of the semaphore of this name
+abbrev pub semaphore_call : List ℕ → SemaphoreCall → Option ℕ → Outcome (Option ℕ)
+semaphore_call name (calls.Set number) = sem_set name number
+semaphore_call name (calls.Try number) = sem_try number
+semaphore_call name (calls.Release number) = sem_release name number
+semaphore_call name calls.Count = sem_count

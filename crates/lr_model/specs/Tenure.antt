@@ -1,74 +1,45 @@
 -- Who holds what when, told from the replies alone. Nothing here looks at what the server keeps.
 use Rattle.std.specs.Prelude.{◌≡◌, ℕ, ◌+◌, ◌-◌, ◌≤◌, nat_lt, List, [], ◌∷◌, Bool, true, false, not, ◌&&◌, ◌||◌, Option, Some, None, if◌then◌else◌}
 use Rattle.std.specs.Str.{bytes_eq}
-use Rattle.lr_names.specs.Owner.{ThreadOfClient, same_owner}
+use Rattle.lr_names.specs.Owner.{same_owner}
 use Rattle.lr_names.specs.declared.kind.Kind.{Kind}
-use Rattle.lr_names.specs.declared.kind.Kind.TheVariants.{Mutex, Fenced}
 use Rattle.lr_objects.specs.declared.op.Op.{Op}
-use Rattle.lr_objects.specs.declared.op.Op.TheVariants.{LockTry, LockUnlock, LockRenew, LockForce, FencedTry, FencedUnlock, FencedRenew}
 use Rattle.lr_objects.specs.declared.reply.Reply.{Reply}
-use Rattle.lr_objects.specs.declared.reply.Reply.TheVariants.{Granted, GrantedToken, Kept, Freed, Renewed}
 use Rattle.lr_objects.specs.Op.{kind_of, name_of}
+use Rattle.lr_objects.specs.Reply.{HoldTold, Taken, OneLess, Extended, Gone, NothingTold, hold_told}
 use Rattle.lr_model.specs.declared.entry.Act.{Act}
 use Rattle.lr_model.specs.declared.entry.Act.TheVariants.{Call}
 use Rattle.lr_model.specs.declared.entry.Entry.{Entry}
 use Rattle.lr_model.specs.Moment.{is_live}
-use Rattle.lr_model.specs.Answer.{reply_of}
+use Rattle.lr_model.specs.Answer.{reply_of, concern_of}
 use Rattle.lr_model.specs.Board.{same_kind}
+use Rattle.lr_model.specs.Claim.{Claim, Concern, OwnHold, AllHolds, same_mode, is_exclusive}
 use Rattle.lr_model.specs.History.{State, step, after}
 
--- alone, or beside others that hold in the same mode
-pub data HoldMode : Type 0 where
-  Exclusive : HoldMode
-  Shared : HoldMode
-
--- whether a mode lets nobody hold beside it
-abbrev pub is_exclusive : HoldMode → Bool
-is_exclusive Exclusive = true
-is_exclusive Shared = false
-
--- whether two modes are one
-abbrev pub same_mode : HoldMode → HoldMode → Bool
-same_mode Exclusive mode = is_exclusive mode
-same_mode Shared mode = not (is_exclusive mode)
-
--- what an owner can hold: an object of a kind, by its name, in a mode
-pub record Claim : Type 0 where
-  pub kind : Kind
-  pub name : List ℕ
-  pub mode : HoldMode
-  pub owner : ThreadOfClient
-
 -- the claim that a call of its owner takes, gives back or renews, if it does
+abbrev pub claim_by : Kind → List ℕ → Concern → Option Claim
+claim_by kind name (OwnHold mode owner lease) =
+    Some (record { kind = kind; name = name; mode = mode; owner = owner })
+claim_by kind name _ = None
+
 abbrev pub claim_of : Op → Option Claim
-claim_of (LockTry name owner lease) =
-    Some (record { kind = Mutex; name = name; mode = Exclusive; owner = owner })
-claim_of (LockUnlock name owner rest) =
-    Some (record { kind = Mutex; name = name; mode = Exclusive; owner = owner })
-claim_of (LockRenew name owner lease) =
-    Some (record { kind = Mutex; name = name; mode = Exclusive; owner = owner })
-claim_of (FencedTry name owner lease) =
-    Some (record { kind = Fenced; name = name; mode = Exclusive; owner = owner })
-claim_of (FencedUnlock name owner rest) =
-    Some (record { kind = Fenced; name = name; mode = Exclusive; owner = owner })
-claim_of (FencedRenew name owner lease) =
-    Some (record { kind = Fenced; name = name; mode = Exclusive; owner = owner })
-claim_of _ = None
+claim_of op = claim_by (kind_of op) (name_of op) (concern_of op.call)
 
 -- whether a call takes an object from whoever holds it
+abbrev pub is_of_all : Concern → Bool
+is_of_all AllHolds = true
+is_of_all _ = false
+
 abbrev pub ends_all_holds : Op → Bool
-ends_all_holds (LockForce name) = true
-ends_all_holds _ = false
+ends_all_holds op = is_of_all (concern_of op.call)
 
 -- the lease that a call gives, or the rest lease
+abbrev pub lease_in : Concern → ℕ
+lease_in (OwnHold mode owner lease) = lease
+lease_in _ = 0
+
 abbrev pub lease_given : Op → ℕ
-lease_given (LockTry name owner lease) = lease
-lease_given (LockUnlock name owner rest) = rest
-lease_given (LockRenew name owner lease) = lease
-lease_given (FencedTry name owner lease) = lease
-lease_given (FencedUnlock name owner rest) = rest
-lease_given (FencedRenew name owner lease) = lease
-lease_given _ = 0
+lease_given op = lease_in (concern_of op.call)
 
 -- whether two claims are of one object
 abbrev pub same_object : Claim → Kind → List ℕ → Bool
@@ -120,15 +91,17 @@ tenure_granted moment lease tenure =
 
 -- A try may be granted. One hold that is given back and stays takes one away. A renewal gives
 -- another deadline, and the last hold that is given back ends the tenure.
-abbrev pub tenure_by_reply : ℕ → ℕ → Reply → Tenure → Tenure
-tenure_by_reply moment lease Granted tenure = tenure_granted moment lease tenure
-tenure_by_reply moment lease (GrantedToken token) tenure = tenure_granted moment lease tenure
-tenure_by_reply moment lease Kept tenure =
+abbrev pub tenure_told : ℕ → ℕ → HoldTold → Tenure → Tenure
+tenure_told moment lease Taken tenure = tenure_granted moment lease tenure
+tenure_told moment lease OneLess tenure =
     record { count = tenure.count - 1; deadline = moment + lease }
-tenure_by_reply moment lease Renewed tenure =
+tenure_told moment lease Extended tenure =
     record { count = tenure.count; deadline = moment + lease }
-tenure_by_reply moment lease Freed tenure = no_tenure
-tenure_by_reply moment lease _ tenure = tenure
+tenure_told moment lease Gone tenure = no_tenure
+tenure_told moment lease NothingTold tenure = tenure
+
+abbrev pub tenure_by_reply : ℕ → ℕ → Reply → Tenure → Tenure
+tenure_by_reply moment lease reply tenure = tenure_told moment lease (hold_told reply) tenure
 
 -- the tenure of a claim after a call was answered
 abbrev pub tenure_by_call : Claim → ℕ → Op → Reply → Tenure → Tenure

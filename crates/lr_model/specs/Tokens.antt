@@ -5,12 +5,16 @@ use Rattle.std.specs.Str.{bytes_eq}
 use Rattle.lr_names.specs.Owner.{ThreadOfClient}
 use Rattle.lr_names.specs.declared.kind.Kind.TheVariants.{Fenced}
 use Rattle.lr_objects.specs.declared.op.Op.{Op}
-use Rattle.lr_objects.specs.declared.op.Op.TheVariants.{FencedTry}
+use Rattle.lr_objects.specs.declared.kinds.Call.{Call}
+use Rattle.lr_objects.specs.declared.kinds.Call.TheVariants.{Fenced as fenced}
+use Rattle.lr_objects.specs.declared.fenced.FencedCall.TheVariants.{Try}
 use Rattle.lr_objects.specs.declared.reply.Reply.{Reply}
 use Rattle.lr_objects.specs.declared.reply.Reply.TheVariants.{GrantedToken}
+use Rattle.lr_objects.specs.Op.{call_on}
 use Rattle.lr_model.specs.declared.entry.Entry.{Entry}
 use Rattle.lr_model.specs.History.{State}
-use Rattle.lr_model.specs.Tenure.{Claim, Exclusive, holds_at}
+use Rattle.lr_model.specs.Claim.{Claim, Exclusive}
+use Rattle.lr_model.specs.Tenure.{holds_at}
 use Rattle.lr_model.specs.Told.{told_after, IsAnswered}
 
 -- the claim of an owner on a fenced lock
@@ -18,10 +22,13 @@ abbrev pub fenced_claim : List ℕ → ThreadOfClient → Claim
 fenced_claim name owner = record { kind = Fenced; name = name; mode = Exclusive; owner = owner }
 
 -- the last token of a lock after a reply to a call
-abbrev pub token_by_reply : List ℕ → Op → Reply → ℕ → ℕ
-token_by_reply name (FencedTry key owner lease) (GrantedToken token) last =
+abbrev pub token_by_call : List ℕ → List ℕ → Call → Reply → ℕ → ℕ
+token_by_call name key (fenced (Try owner lease)) (GrantedToken token) last =
     if bytes_eq name key then token else last
-token_by_reply name _ _ last = last
+token_by_call name key _ _ last = last
+
+abbrev pub token_by_reply : List ℕ → Op → Reply → ℕ → ℕ
+token_by_reply name op reply last = token_by_call name op.name op.call reply last
 
 -- the last token of a lock that a history told, 0 before the first
 abbrev pub last_token : State → List Entry → List ℕ → ℕ
@@ -40,5 +47,6 @@ TokensGrow first entries =
     (earlier later : List Entry) (entry : Entry) (name : List ℕ) (owner : ThreadOfClient)
     (lease token : ℕ)
     → entries ≡ earlier ++ entry ∷ later
-    → IsAnswered first earlier entry (FencedTry name owner lease) (GrantedToken token)
+    → IsAnswered first earlier entry (call_on name (fenced (Try owner lease)))
+    (GrantedToken token)
     → token ≡ token_due first earlier name owner entry.moment

@@ -6,14 +6,14 @@ use Rattle.lr_names.specs.Name.{IsName}
 use Rattle.lr_names.specs.Owner.{IsId}
 use Rattle.lr_objects.specs.Function.{arguments_of}
 use Rattle.lr_objects.specs.Want.{mode_word, want_words}
-use Rattle.lr_objects.specs.declared.function.Arguments.{Arguments}
-use Rattle.lr_objects.specs.declared.function.Arguments.TheVariants as arguments
+use Rattle.lr_objects.specs.declared.form.Arguments.{Arguments}
+use Rattle.lr_objects.specs.declared.form.Arguments.TheVariants as arguments
 use Rattle.lr_objects.specs.declared.want.Lease.{Lease}
 use Rattle.lr_objects.specs.declared.want.Lease.TheVariants as leases
 use Rattle.lr_objects.specs.declared.want.Want.{Want}
-use Rattle.lr_model.specs.declared.event.Event.{Event}
-use Rattle.lr_model.specs.declared.event.Event.TheVariants.{Begin, Ask, Exec, Take, Tick, Force}
-use Rattle.lr_model.specs.Within.{CanBegin}
+use Rattle.lr_steps.specs.declared.event.Event.{Event}
+use Rattle.lr_steps.specs.declared.event.Event.TheVariants.{Begin, Ask, Exec, Take, Tick, Force}
+use Rattle.lr_steps.specs.Within.{CanBegin}
 
 -- the words of an event, in order
 abbrev pub event_words : Event → List (List ℕ)

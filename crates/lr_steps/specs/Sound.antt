@@ -1,12 +1,13 @@
 -- What holds after every event of every schedule.
 use Rattle.std.specs.Prelude.{◌≡◌, ℕ, ◌≤◌, List, ◌++◌}
 use Rattle.lr_model.specs.declared.entry.Entry.{Entry}
-use Rattle.lr_model.specs.declared.event.Event.{Event}
-use Rattle.lr_model.specs.History.{IsLegal, after}
+use Rattle.lr_steps.specs.declared.event.Event.{Event}
+use Rattle.lr_model.specs.History.{IsLegal, after, deeds_of, deeds_by}
 use Rattle.lr_model.specs.Tenure.{NoConflict}
 use Rattle.lr_model.specs.Tokens.{TokensGrow}
-use Rattle.lr_model.specs.Counts.{NeverOvergranted, CountsDown}
-use Rattle.lr_model.specs.World.{World, first_state, state_of, deeds_of, deeds_by, deeds_made, world_after, first_world}
+use Rattle.lr_model.specs.SemaphoreCounts.{NeverOvergranted}
+use Rattle.lr_model.specs.CountdownCounts.{CountsDown}
+use Rattle.lr_steps.specs.World.{World, first_state, state_of, deeds_made, world_after, first_world}
 
 -- The history is legal and no later than the moment, and as long as no connection has subscribed
 -- none is sent anything.

@@ -21,7 +21,7 @@ pub struct Replied {
 }
 
 impl Model for Replied {
-    ghost use Rattle.lr_model.specs.Values.{RepliedValue};
+    ghost use Rattle.lr_steps.specs.RepliedValue.{RepliedValue};
 
     ghost Value = { RepliedValue };
 

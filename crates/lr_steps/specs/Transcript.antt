@@ -3,17 +3,17 @@ use Rattle.std.specs.Prelude.{◌≡◌, ◌≢◌, ℕ, ◌+◌, ◌≤◌, Lis
 use Rattle.lr_limits.specs.Limits.{event_limit}
 use Rattle.lr_names.specs.Channel.{channel_text}
 use Rattle.lr_objects.specs.Reply.{reply_text}
-use Rattle.lr_model.specs.declared.event.Event.{Event}
-use Rattle.lr_model.specs.declared.schedule_line.ScheduleLine.{ScheduleLine}
-use Rattle.lr_model.specs.declared.schedule_line.ScheduleLine.TheVariants as kinds
-use Rattle.lr_model.specs.declared.shown.Found.{Found}
-use Rattle.lr_model.specs.declared.shown.Found.TheVariants as found
-use Rattle.lr_model.specs.declared.shown.Reached.{Reached}
-use Rattle.lr_model.specs.declared.shown.Shown.{Shown}
-use Rattle.lr_model.specs.declared.shown.Shown.TheVariants.{Fresh, Asked, Replied as replied, Done, Moment, No}
-use Rattle.lr_model.specs.EventText.{event_text, IsEvent}
-use Rattle.lr_model.specs.Within.{IsWithin}
-use Rattle.lr_model.specs.World.{World, shown, next}
+use Rattle.lr_steps.specs.declared.event.Event.{Event}
+use Rattle.lr_steps.specs.declared.schedule_line.ScheduleLine.{ScheduleLine}
+use Rattle.lr_steps.specs.declared.schedule_line.ScheduleLine.TheVariants as kinds
+use Rattle.lr_steps.specs.declared.shown.Found.{Found}
+use Rattle.lr_steps.specs.declared.shown.Found.TheVariants as found
+use Rattle.lr_steps.specs.declared.shown.Reached.{Reached}
+use Rattle.lr_steps.specs.declared.shown.Shown.{Shown}
+use Rattle.lr_steps.specs.declared.shown.Shown.TheVariants.{Fresh, Asked, Replied as replied, Done, Moment, No}
+use Rattle.lr_steps.specs.EventText.{event_text, IsEvent}
+use Rattle.lr_steps.specs.Within.{IsWithin}
+use Rattle.lr_steps.specs.World.{World, shown, next}
 
 -- the message that a call sent, and how many connections it reached
 abbrev pub post_text : Option Reached → List ℕ

@@ -2,7 +2,7 @@
 use Rattle.std.specs.Prelude.{Bool}
 use Rattle.lr_objects.specs.declared.want.Mode.{Mode}
 use Rattle.lr_objects.specs.declared.want.Want.{Want}
-use Rattle.lr_model.specs.declared.waiter.Stage.{Stage}
+use Rattle.lr_steps.specs.declared.waiter.Stage.{Stage}
 
 -- how long it may wait, what it wants, how far it has come, and whether it counts among those that
 -- wait on its channel

@@ -48,7 +48,7 @@ pub struct Waiter {
 }
 
 impl Model for Waiter {
-    ghost use Rattle.lr_model.specs.WaiterValue.{WaiterValue};
+    ghost use Rattle.lr_steps.specs.WaiterValue.{WaiterValue};
 
     ghost Value = { WaiterValue };
 

@@ -4,14 +4,14 @@ use Rattle.lr_limits.specs.Limits.{client_limit}
 use Rattle.lr_names.specs.Owner.{IsThread}
 use Rattle.lr_objects.specs.Function.{arguments_of, begins}
 use Rattle.lr_objects.specs.Want.{HasAmount}
-use Rattle.lr_objects.specs.declared.function.Arguments.{Arguments}
-use Rattle.lr_objects.specs.declared.function.Arguments.TheVariants.{IdAndLease}
+use Rattle.lr_objects.specs.declared.form.Arguments.{Arguments}
+use Rattle.lr_objects.specs.declared.form.Arguments.TheVariants.{IdAndLease}
 use Rattle.lr_objects.specs.declared.want.Lease.TheVariants as leases
 use Rattle.lr_objects.specs.declared.want.Mode.{Mode}
 use Rattle.lr_objects.specs.declared.want.Mode.TheVariants.{Once}
 use Rattle.lr_objects.specs.declared.want.Want.{Want}
-use Rattle.lr_model.specs.declared.event.Event.{Event}
-use Rattle.lr_model.specs.declared.event.Event.TheVariants.{Begin, Ask, Exec, Take, Tick, Force}
+use Rattle.lr_steps.specs.declared.event.Event.{Event}
+use Rattle.lr_steps.specs.declared.event.Event.TheVariants.{Begin, Ask, Exec, Take, Tick, Force}
 
 -- clients are numbered from 1 to 64
 abbrev pub IsClient : ℕ → Type 0

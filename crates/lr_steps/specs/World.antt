@@ -1,36 +1,37 @@
 -- The step table: what a schedule's event shows, and what it changes. Two functions by cases, over
 -- rows that are functions of one client.
-use Rattle.std.specs.Prelude.{ℕ, ◌+◌, ◌-◌, ◌*◌, ◌==◌, List, [], ◌∷◌, ◌++◌, false, Option, Some, None, if◌then◌else◌}
+use Rattle.std.specs.Prelude.{ℕ, ◌+◌, ◌-◌, ◌*◌, ◌==◌, List, [], ◌∷◌, ◌++◌, false, Option, Some, None}
 use Rattle.std.specs.Int.{w128, to_be_bytes}
 use Rattle.std.specs.Option.{option_map}
 use Rattle.lr_names.specs.Owner.{ThreadOfClient}
 use Rattle.lr_names.specs.declared.post.Post.{Post}
+use Rattle.lr_objects.specs.Op.{call_on}
 use Rattle.lr_objects.specs.Want.{op_of, lease_of}
 use Rattle.lr_objects.specs.declared.op.Op.{Op}
 use Rattle.lr_objects.specs.declared.reply.Reply.{Reply}
-use Rattle.lr_objects.specs.declared.op.Op.TheVariants.{LockForce}
+use Rattle.lr_objects.specs.declared.kinds.Call.TheVariants.{Lock}
+use Rattle.lr_objects.specs.declared.lock.LockCall.TheVariants.{Force as force}
 use Rattle.lr_objects.specs.declared.want.Want.{Want}
 use Rattle.lr_objects.specs.declared.want.Mode.{Mode}
-use Rattle.lr_model.specs.declared.entry.Act.{Act}
 use Rattle.lr_model.specs.declared.entry.Act.TheVariants.{Call}
 use Rattle.lr_model.specs.declared.entry.Entry.{Entry}
-use Rattle.lr_model.specs.declared.event.Event.{Event}
-use Rattle.lr_model.specs.declared.event.Event.TheVariants as events
-use Rattle.lr_model.specs.declared.shown.Found.{Found}
-use Rattle.lr_model.specs.declared.shown.Found.TheVariants as found
-use Rattle.lr_model.specs.declared.shown.Reached.{Reached}
-use Rattle.lr_model.specs.declared.shown.Replied.{Replied}
-use Rattle.lr_model.specs.declared.shown.Shown.{Shown}
-use Rattle.lr_model.specs.declared.shown.Shown.TheVariants as shows
-use Rattle.lr_model.specs.declared.waiter.Asking.{Asking}
-use Rattle.lr_model.specs.declared.waiter.Stage.{Stage}
-use Rattle.lr_model.specs.declared.waiter.Stage.TheVariants.{Fresh, Asked, Answered}
-use Rattle.lr_model.specs.declared.waiter.Waiter.{Waiter}
+use Rattle.lr_steps.specs.declared.event.Event.{Event}
+use Rattle.lr_steps.specs.declared.event.Event.TheVariants as events
+use Rattle.lr_steps.specs.declared.shown.Found.{Found}
+use Rattle.lr_steps.specs.declared.shown.Found.TheVariants as found
+use Rattle.lr_steps.specs.declared.shown.Reached.{Reached}
+use Rattle.lr_steps.specs.declared.shown.Replied.{Replied}
+use Rattle.lr_steps.specs.declared.shown.Shown.{Shown}
+use Rattle.lr_steps.specs.declared.shown.Shown.TheVariants as shows
+use Rattle.lr_steps.specs.declared.waiter.Asking.{Asking}
+use Rattle.lr_steps.specs.declared.waiter.Stage.{Stage}
+use Rattle.lr_steps.specs.declared.waiter.Stage.TheVariants.{Fresh, Asked, Answered}
+use Rattle.lr_steps.specs.declared.waiter.Waiter.{Waiter}
 use Rattle.lr_model.specs.Moment.{later}
 use Rattle.lr_model.specs.Table.{put}
 use Rattle.lr_model.specs.Answer.{reply_of, post_of}
 use Rattle.lr_model.specs.Board.{Board, reached_by}
-use Rattle.lr_model.specs.History.{State, state_at_start, after}
+use Rattle.lr_model.specs.History.{State, Deed, state_at_start, after, call_entry}
 
 -- a client: the requests of its threads
 pub record Client : Type 0 where
@@ -76,10 +77,9 @@ operator = 0
 abbrev pub operator_connection : ℕ
 operator_connection = 0
 
--- the entry that a call makes
-abbrev pub call_entry : ℕ → ℕ → ℕ → Op → Entry
-call_entry moment caller conn op =
-    record { moment = moment; caller = caller; conn = conn; act = Call op }
+-- the call of an operator that takes a lock from whoever holds it
+abbrev pub force_of : List ℕ → Op
+force_of name = call_on name (Lock force)
 
 -- how many connections the message of a call reaches
 abbrev pub reached_post : Board → Option Post → Option Reached
@@ -225,7 +225,7 @@ shown world (events.Take c t) =
     shown_take (waiting_reply (waiter_of world c t)) (phase_of (waiter_of world c t))
 shown world (events.Tick moment) = shows.Moment (later world.moment moment)
 shown world (events.Force name) =
-    shows.Replied (replied_at (state_of world) world.moment (LockForce name))
+    shows.Replied (replied_at (state_of world) world.moment (force_of name))
 
 -- What an event changes.
 
@@ -258,7 +258,7 @@ next world (events.Ask c t) =
 next world (events.Exec c t) = next_exec world c t (asked_of (waiter_of world c t))
 next world (events.Take c t) = next_row world c (take_row t (world.clients c))
 next world (events.Tick moment) = record world { moment = later world.moment moment }
-next world (events.Force name) = with_entry world operator operator_connection (LockForce name)
+next world (events.Force name) = with_entry world operator operator_connection (force_of name)
 
 -- the world after these events
 abbrev pub world_after : World → List Event → World
@@ -266,24 +266,6 @@ world_after world [] = world
 world_after world (event ∷ events) = world_after (next world event) events
 
 -- Who acts in the history, on which connection, and how.
-
--- an act, with its caller and its connection
-pub record Deed : Type 0 where
-  pub caller : ℕ
-  pub conn : ℕ
-  pub act : Act
-
--- the deeds of a history
-abbrev pub deeds_of : List Entry → List Deed
-deeds_of [] = []
-deeds_of (entry ∷ entries) =
-    record { caller = entry.caller; conn = entry.conn; act = entry.act } ∷ deeds_of entries
-
--- those of one caller among these, in order
-abbrev pub deeds_by : ℕ → List Deed → List Deed
-deeds_by caller [] = []
-deeds_by caller (deed ∷ deeds) =
-    if deed.caller == caller then deed ∷ deeds_by caller deeds else deeds_by caller deeds
 
 -- what an event makes the server do, and for whom, where the event applies
 abbrev pub deeds_of_exec : ℕ → ℕ → Option Asking → List Deed
@@ -294,7 +276,7 @@ deeds_of_exec c t None = []
 abbrev pub deeds_of_event : World → Event → List Deed
 deeds_of_event world (events.Exec c t) = deeds_of_exec c t (asked_of (waiter_of world c t))
 deeds_of_event world (events.Force name) =
-    record { caller = operator; conn = operator_connection; act = Call (LockForce name) } ∷ []
+    record { caller = operator; conn = operator_connection; act = Call (force_of name) } ∷ []
 deeds_of_event world (events.Begin c t mode want) = []
 deeds_of_event world (events.Ask c t) = []
 deeds_of_event world (events.Take c t) = []
