@@ -1,7 +1,8 @@
-use Rattle.std.proofs.Common.{◌≡◌, ◌≤◌, ◌<◌, ◌+◌, suc, length, arith, ℕ, Bool, true, false, cond, List, [], ◌∷◌, ℤ, Some, IsSome, refl, ap, true≢false, sym}
+use Rattle.std.proofs.Common.{◌≡◌, ◌≤◌, ◌<◌, ◌+◌, suc, length, arith, ℕ, Bool, true, false, cond, List, [], ◌∷◌, ◌++◌, ℤ, Some, None, IsSome, refl, ap, true≢false, sym}
 use Rattle.std.specs.Str.{bytes_eq}
-use Rattle.std.specs.Map.{set_value}
-use Rattle.lr_keys.specs.FieldMap.{field_value, with_field, without_field, Pairs}
+use Rattle.std.specs.Map.{lookup, set_value}
+use Rattle.indexmap.specs.IndexMap.{insert_entry}
+use Rattle.lr_keys.specs.FieldMap.{field_value, with_field, Pairs}
 
 -- a field that is there takes the number in its place
 pub with_field-there : (field : List ℕ) (number : ℤ) (pairs : Pairs)
@@ -53,13 +54,18 @@ length-with_field_some field number (e ∷ es) = by (bytes_eq field e.0)
     by true = omega arith
     by false = omega arith
 
--- a field less leaves no more fields
-pub length-without_field : (field : List ℕ) (pairs : Pairs)
-    → length (without_field field pairs) ≤ length pairs
-length-without_field field [] = omega arith
-length-without_field field (e ∷ es) = by (bytes_eq field e.0) (length-without_field field es)
+-- a field that isn't there comes last
+pub with_field-last : {V : Type 0} (field : List ℕ) (value : V) (es : List (List ℕ × V))
+    → lookup (bytes_eq field) es ≡ None
+    → insert_entry bytes_eq es field value ≡ es ++ (field, value) ∷ []
+with_field-last field value [] absent = refl
+with_field-last field value (e ∷ es) absent =
+    by (with_field-last field value es) (bytes_eq field e.0) absent
   where
-    by : (b : Bool) → length (without_field field es) ≤ length es
-        → length (cond b es (e ∷ without_field field es)) ≤ suc (length es)
-    by true rest = omega arith
-    by false rest = omega arith
+    by : (lookup (bytes_eq field) es ≡ None
+        → insert_entry bytes_eq es field value ≡ es ++ (field, value) ∷ []) → (b : Bool)
+        → cond b (Some e.1) (lookup (bytes_eq field) es) ≡ None
+        → cond b ((e.0, value) ∷ es) (e ∷ insert_entry bytes_eq es field value)
+        ≡ e ∷ (es ++ (field, value) ∷ [])
+    by rest true found = absurd (cc found)
+    by rest false absent = ap (λ l. e ∷ l) (rest absent)

@@ -1,8 +1,11 @@
+pub mod CountLemmas
 pub mod ExpiryLemmas
 pub mod FieldMapLemmas
+pub mod FieldOrderLemmas
 pub mod FrameLaws
 pub mod KeyLaws
 pub mod LiveLemmas
 pub mod NextLemmas
+pub mod OrderLemmas
 pub mod SlotLemmas
 pub mod TableLaws

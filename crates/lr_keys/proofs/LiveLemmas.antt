@@ -11,7 +11,6 @@ use Rattle.indexmap.specs.IndexMap.{get, spare, index_map_len}
 use Rattle.lr_limits.specs.Limits.{last_moment}
 use Rattle.lr_keys.specs.declared.key_space.KeySpace.TheInside.{Inside}
 use Rattle.lr_keys.specs.declared.slot.Slot.{Slot}
-use Rattle.lr_keys.specs.declared.value_kind.ValueKind.{ValueKind}
 use Rattle.lr_keys.specs.KeySpace.{Keys, entry_at, is_ahead, live_entry, live_entries}
 use Rattle.lr_keys.specs.Slots.{AreExpiries, moment_of, IsKeySpace, IsRoomFor, live_slot, key_entry_of, keys_inside}
 use Rattle.lr_keys.specs.Table.{with_key}
@@ -104,12 +103,11 @@ live_slot-all es ds moment h later q = live_slot-later moment (lookup (bytes_eq 
     ∙ ap (λ (x : List ℕ × Slot). moment_of x.1.expiry) entry ∙ ap moment_of ahead in
     subst (λ n. moment < n) is (later found.0 (omega (arith, within, h.room))))
 
-IsRoomFor-live : (moment : ℕ) (o : Option Slot) (kind : ValueKind) → IsRoomFor o kind
-    → IsRoomFor (live_slot moment o) kind
-IsRoomFor-live moment None kind room = tt
-IsRoomFor-live moment (Some slot) kind room = by (is_ahead moment slot.expiry)
+IsRoomFor-live : (moment : ℕ) (o : Option Slot) → IsRoomFor o → IsRoomFor (live_slot moment o)
+IsRoomFor-live moment None room = tt
+IsRoomFor-live moment (Some slot) room = by (is_ahead moment slot.expiry)
   where
-    by : (b : Bool) → IsRoomFor (if b then Some slot else None) kind
+    by : (b : Bool) → IsRoomFor (if b then Some slot else None)
     by true = room
     by false = tt
 
@@ -136,8 +134,8 @@ module _ (s t : Inside) where
         record {
           ahead = left_ahead t.moment slot.expiry was.1;
           near = live.near;
-          some_fields = live.some_fields;
-          few_fields = live.few_fields;
+          some = live.some;
+          few = live.few;
         };
     expiries = expiries;
     places = omega (arith, ap (λ m. index_map_len m) spares, fewer, places, kept.places);
@@ -146,9 +144,8 @@ module _ (s t : Inside) where
     ready = λ key p at.
         let r = kept.ready key p (ap (λ m. get bytes_eq m key) (sym spares) ∙ at) in
         record {
-          empty = r.empty;
           spare = r.spare;
-          room = subst (λ (o : Option Slot). IsRoomFor o p.kind) (sym (slots key))
-              (IsRoomFor-live t.moment (get bytes_eq s.slots key) p.kind r.room);
+          room = subst IsRoomFor (sym (slots key))
+              (IsRoomFor-live t.moment (get bytes_eq s.slots key) r.room);
         };
   }

@@ -1,25 +1,27 @@
-use Rattle.std.proofs.Common.{◌≡◌, ℕ, Bool, true, false, cond, List, [], ◌∷◌, ◌++◌, Option, Some, None, IsSome, IsTrue, Result, Ok, Err, OnOk, OnErr, ◌&&◌, true≢false, ℤ, refl, map, is_some, length, nat_lt, if◌then◌else◌, ◌≤◌, ◌<◌, ◌+◌, arith, ap, sym, subst, ◌∙◌}
+use Rattle.std.proofs.Common.{◌≡◌, ℕ, Bool, true, false, cond, List, [], ◌∷◌, ◌++◌, Option, Some, None, IsSome, Result, Ok, Err, OnOk, OnErr, ◌&&◌, true≢false, ℤ, refl, map, is_some, length, nat_lt, if◌then◌else◌, ◌≤◌, ◌<◌, ◌+◌, arith, ap, sym, subst, ◌∙◌}
 use Rattle.std.proofs.Math.Nat.{le_trans}
 use Rattle.std.specs.Borrow.{MutBor}
 use Rattle.std.specs.Option.{ForSome, option_map, option_copied_mut}
 use Rattle.std.specs.Str.{bytes_eq}
 use Rattle.std.specs.Map.{lookup, set_value}
 use Rattle.indexmap.specs.IndexMap.{IndexMap, get, spare, index_map_len, WritesThrough}
-use Rattle.lr_keys.specs.KeySpace.{Content, Fields, Number, Keys, KeyEntry, content_with_field, content_without_field, entry_without_field, is_empty_hash, is_plan_for, is_same_kind, is_there, field_at, counter_at, field_of, hash_in, number_after_increment, field_after_increment, AreLive, IsLive, entry_at, plan_at}
-use Rattle.lr_keys.specs.Slots.{KeepsSlot, new_slot, key_entry_of, content_of, key_entries_of, plans_of, plan_of, HasRoom, IsSpareFor, keys_inside, IsReadySpare, IsRoomFor, IsLiveSlot, AreExpiries, IsKeySpace}
+use Rattle.lr_keys.specs.declared.addition.Addition.{Addition}
+use Rattle.lr_keys.specs.Addition.{content_made, content_with, content_without, entry_with, entry_without}
+use Rattle.lr_keys.specs.KeySpace.{Content, Fields, Items, Members, Number, Keys, KeyEntry, member_count, is_empty, is_plan_for, is_same_kind, hash_at, hash_in, zset_at, zset_in, count_at, score_at, seen, number_after_increment, field_after_increment, is_new_score, is_new_member, AreLive, IsLive, entry_at, plan_at}
+use Rattle.lr_keys.specs.Slots.{KeepsSlot, new_slot, key_entry_of, content_of, key_entries_of, plans_of, plan_of, HasMember, HasMemberAt, HasRoom, IsSpareFor, keys_inside, IsReadySpare, IsRoomFor, IsLiveSlot, AreExpiries, IsKeySpace}
 use Rattle.lr_limits.specs.Limits.{last_moment, longest_lease, member_limit}
 use Rattle.lr_keys.specs.declared.value_kind.ValueKind.{ValueKind}
 use Rattle.lr_keys.specs.declared.value_kind.ValueKind.TheVariants.{Hash as HashKind, List as ListKind, Zset, Counter as CounterKind}
-use Rattle.lr_keys.specs.declared.fault.KeyFault.{KeyFault}
 use Rattle.lr_keys.specs.declared.fault.KeyFault.TheVariants.{TooMany}
 use Rattle.lr_keys.specs.Table.{with_key, WritesKey, without_key_if}
 use Rattle.lr_keys.proofs.TableLaws.{at_each-with_key, with_key-same}
 use Rattle.lr_keys.specs.declared.slot.Slot.{Slot}
 use Rattle.lr_keys.specs.declared.slot.Spare.{Spare}
 use Rattle.lr_keys.specs.declared.slot.Stored.{Stored}
-use Rattle.lr_keys.specs.FieldMap.{field_value, with_field, without_field, Pairs}
+use Rattle.lr_keys.specs.FieldMap.{field_value, Pairs}
+use Rattle.lr_sorted.specs.Members.{Members as Scores, score_of}
 use Rattle.lr_keys.proofs.ExpiryLemmas.{AreExpiries-push, AreExpiries-shown, AreExpiries-written, length_shown}
-use Rattle.lr_keys.proofs.FieldMapLemmas.{length-without_field, length-with_field_some, length-with_field_there, length-with_field_le}
+use Rattle.lr_keys.proofs.CountLemmas.{member_count-made, member_count-there, member_count-with, member_count-without, some-content_with, some_members}
 use Rattle.lr_keys.specs.declared.key_space.KeySpace.TheInside.{Inside}
 
 -- a look-up among values that are shown by f
@@ -124,7 +126,7 @@ module _ (s t : Inside) where
       → AreExpiries t.slots.entries t.expiries → index_map_len t.slots ≤ index_map_len s.slots
       → length t.expiries ≡ length s.expiries → spare s.slots ≤ spare t.slots
       → ForSome w (IsLiveSlot t.moment)
-      → ((kind : ValueKind) → IsRoomFor (get bytes_eq s.slots key) kind → IsRoomFor w kind)
+      → (IsRoomFor (get bytes_eq s.slots key) → IsRoomFor w)
       → IsKeySpace t
   IsKeySpace-set key w kept moment spares sets expiries fewer places room sound room_for = record {
     moment = subst (λ m. m ≤ last_moment) (sym moment) kept.moment;
@@ -140,7 +142,7 @@ module _ (s t : Inside) where
         (at_each-with_key (λ q o. ForSome (get bytes_eq s.spares q) (IsReadySpare o))
         (get bytes_eq s.slots) (get bytes_eq t.slots) key w sets
         (λ p at. let r = kept.ready key p at in
-        record { empty = r.empty; spare = r.spare; room = room_for p.kind r.room })
+        record { spare = r.spare; room = room_for r.room })
         kept.ready);
   }
 
@@ -182,15 +184,10 @@ pub sets_written : {X S : Type 0} (m n : IndexMap (List ℕ) X S) (key : List �
     → get bytes_eq n q ≡ with_key key (Some w) (get bytes_eq m) q
 sets_written m n key u w found writes = (writes.3 (sym (ap is_some found))).0
 
--- room in a slot stays room where its hash keeps room
+-- room in a slot stays room where its value keeps room
 pub IsRoomFor-some : (o : Option Slot) (u w : Slot) → Some u ≡ o
-    → (HasRoom u.value → HasRoom w.value) → (kind : ValueKind) → IsRoomFor o kind
-    → IsRoomFor (Some w) kind
-IsRoomFor-some o u w found keeps HashKind room =
-    keeps (subst (λ o. IsRoomFor o HashKind) (sym found) room)
-IsRoomFor-some o u w found keeps ListKind room = tt
-IsRoomFor-some o u w found keeps Zset room = tt
-IsRoomFor-some o u w found keeps CounterKind room = tt
+    → (HasRoom u.value → HasRoom w.value) → IsRoomFor o → IsRoomFor (Some w)
+IsRoomFor-some o u w found keeps room = keeps (subst IsRoomFor (sym found) room)
 
 -- a slot with an expiry ahead
 pub IsLiveSlot-expiring : (moment expiry : ℕ) (slot : Slot) → IsLiveSlot moment slot
@@ -199,8 +196,8 @@ pub IsLiveSlot-expiring : (moment expiry : ℕ) (slot : Slot) → IsLiveSlot mom
 IsLiveSlot-expiring moment expiry slot sound ahead near = record {
   ahead = λ e at. let same : expiry ≡ e = cc in omega arith;
   near = λ e at. let same : expiry ≡ e = cc in omega arith;
-  some_fields = sound.some_fields;
-  few_fields = sound.few_fields;
+  some = sound.some;
+  few = sound.few;
 }
 
 -- a fact of the value in a `Some`
@@ -227,8 +224,8 @@ module _ (s t : Inside) (key : List ℕ) (w : Slot) (spent : Bool) where
       → AreExpiries t.slots.entries t.expiries
       → index_map_len t.slots + index_map_len t.spares ≤ length t.expiries
       → index_map_len t.spares ≤ spare t.slots → IsLiveSlot t.moment w
-      → (spent ≡ false → (kind : ValueKind) → IsRoomFor (get bytes_eq s.slots key) kind
-      → IsRoomFor (Some w) kind) → IsKeySpace t
+      → (spent ≡ false → IsRoomFor (get bytes_eq s.slots key) → IsRoomFor (Some w))
+      → IsKeySpace t
   IsKeySpace-grown kept moment sets spends expiries places room sound room_for = record {
     moment = subst (λ m. m ≤ last_moment) (sym moment) kept.moment;
     slots = at_each-with_key (λ q o. ForSome o (IsLiveSlot t.moment))
@@ -253,49 +250,23 @@ module _ (s t : Inside) (key : List ℕ) (w : Slot) (spent : Bool) where
 
       here : (b : Bool) → ((q : List ℕ)
           → get bytes_eq t.spares q ≡ without_key_if b key (get bytes_eq s.spares) q)
-          → (b ≡ false → (kind : ValueKind) → IsRoomFor (get bytes_eq s.slots key) kind
-          → IsRoomFor (Some w) kind) → ForSome (get bytes_eq t.spares key) (IsReadySpare (Some w))
+          → (b ≡ false → IsRoomFor (get bytes_eq s.slots key) → IsRoomFor (Some w))
+          → ForSome (get bytes_eq t.spares key) (IsReadySpare (Some w))
       here true spends room_for = λ p at. let gone =
           with_key-same key None (get bytes_eq s.spares) in let e = spends key in
           absurd (cc (gone, e, at))
       here false spends room_for = λ p at. let r = kept.ready key p (sym (spends key) ∙ at) in
-          record { empty = r.empty; spare = r.spare; room = room_for refl p.kind r.room }
+          record { spare = r.spare; room = room_for refl r.room }
 
--- a slot whose value has room has it for any member
-pub IsRoomFor-any : (w : Slot) → HasRoom w.value → (kind : ValueKind) → IsRoomFor (Some w) kind
-IsRoomFor-any w room HashKind = room
-IsRoomFor-any w room ListKind = tt
-IsRoomFor-any w room Zset = tt
-IsRoomFor-any w room CounterKind = tt
-
--- a value with a field more is one that a key may hold
-some_with_field : (field : List ℕ) (number : ℤ) (value : Content) (pairs : Pairs)
-    → content_with_field field number value ≡ Fields pairs → 0 < length pairs
-some_with_field field number (Fields before) pairs e =
-    let same : with_field field number before ≡ pairs = cc e in
-    subst (λ (ps : Pairs). 0 < length ps) same (length-with_field_some field number before)
-some_with_field field number (Number n) pairs e = absurd (cc e)
-
-few_with_field : (field : List ℕ) (number : ℤ) (value : Content) (pairs : Pairs)
-    → ((before : Pairs) → value ≡ Fields before
-    → length (with_field field number before) ≤ member_limit)
-    → content_with_field field number value ≡ Fields pairs → length pairs ≤ member_limit
-few_with_field field number (Fields before) pairs few e =
-    let same : with_field field number before ≡ pairs = cc e in
-    subst (λ (ps : Pairs). length ps ≤ member_limit) same (few before refl)
-few_with_field field number (Number n) pairs few e = absurd (cc e)
-
-pub IsLiveSlot-with_field : (moment : ℕ) (u : Slot) (x : Stored) (field : List ℕ) (number : ℤ)
-    → IsLiveSlot moment u
-    → content_of x ≡ content_with_field field number (content_of u.value)
-    → ((before : Pairs) → content_of u.value ≡ Fields before
-    → length (with_field field number before) ≤ member_limit)
-    → IsLiveSlot moment (record u { value = x })
-IsLiveSlot-with_field moment u x field number sound same few = record {
+-- a value that changed, which has a member and no more than a key may have
+pub IsLiveSlot-changed : (moment : ℕ) (u : Slot) (x : Stored) (content : Content)
+    → IsLiveSlot moment u → content_of x ≡ content → 0 < member_count content
+    → member_count content ≤ member_limit → IsLiveSlot moment (record u { value = x })
+IsLiveSlot-changed moment u x content sound same some few = record {
   ahead = sound.ahead;
   near = sound.near;
-  some_fields = λ pairs e. some_with_field field number (content_of u.value) pairs (sym same ∙ e);
-  few_fields = λ pairs e. few_with_field field number (content_of u.value) pairs few (sym same ∙ e);
+  some = subst (λ (v : Content). 0 < member_count v) (sym same) some;
+  few = subst (λ (v : Content). member_count v ≤ member_limit) (sym same) few;
 }
 
 -- a slot that is shown as before is as sound
@@ -305,17 +276,33 @@ IsLiveSlot-same moment u x same sound =
     subst (λ (v : Content). IsLive moment (record { value = v; expiry = u.expiry }))
     (sym same) sound
 
--- a new field, or none where there was no memory for it
+-- a value with a new member, where it has fewer than a key may have
+pub IsLiveSlot-with : (moment : ℕ) (u : Slot) (x : Stored) (addition : Addition)
+    → IsLiveSlot moment u → content_of x ≡ content_with addition (content_of u.value)
+    → member_count (content_of u.value) < member_limit → IsLiveSlot moment (record u { value = x })
+IsLiveSlot-with moment u x addition sound same few =
+    IsLiveSlot-changed moment u x (content_with addition (content_of u.value)) sound same
+    (some-content_with addition (content_of u.value) sound.some)
+    (omega (arith, member_count-with addition (content_of u.value), few))
+
+-- and one where the member was there
+pub IsLiveSlot-there : (moment : ℕ) (u : Slot) (x : Stored) (addition : Addition)
+    → IsLiveSlot moment u → content_of x ≡ content_with addition (content_of u.value)
+    → HasMember addition (content_of u.value) → IsLiveSlot moment (record u { value = x })
+IsLiveSlot-there moment u x addition sound same there =
+    IsLiveSlot-changed moment u x (content_with addition (content_of u.value)) sound same
+    (some-content_with addition (content_of u.value) sound.some)
+    (le_trans (member_count-there addition (content_of u.value) there) sound.few)
+
+-- a new member, or none where there was no memory for it
 pub IsLiveSlot-added : {T E : Type 0} (r : Result T E) (moment : ℕ) (u : Slot) (x : Stored)
-    (field : List ℕ) (number : ℤ) → IsLiveSlot moment u
-    → OnOk r (content_of x ≡ content_with_field field number (content_of u.value))
+    (addition : Addition) → IsLiveSlot moment u
+    → OnOk r (content_of x ≡ content_with addition (content_of u.value))
     → OnErr r (content_of x ≡ content_of u.value)
-    → ((before : Pairs) → content_of u.value ≡ Fields before
-    → length (with_field field number before) ≤ member_limit)
-    → IsLiveSlot moment (record u { value = x })
-IsLiveSlot-added (Ok v) moment u x field number sound wrote same few =
-    IsLiveSlot-with_field moment u x field number sound wrote few
-IsLiveSlot-added (Err e) moment u x field number sound wrote same few =
+    → member_count (content_of u.value) < member_limit → IsLiveSlot moment (record u { value = x })
+IsLiveSlot-added (Ok v) moment u x addition sound wrote same few =
+    IsLiveSlot-with moment u x addition sound wrote few
+IsLiveSlot-added (Err e) moment u x addition sound wrote same few =
     IsLiveSlot-same moment u x same sound
 
 -- what `get_mut` lends is what the table has
@@ -324,32 +311,12 @@ pub IsSome-lent : {X : Type 0} (r : Option (MutBor X)) (o : Option X) → option
 IsSome-lent None o e there = absurd (true≢false (sym there ∙ sym (ap is_some e)))
 IsSome-lent (Some x) o e there = refl
 
--- a slot is there where what is shown has the field
-pub IsSome-slot : (keys : Keys) (key field : List ℕ) (o : Option Slot)
-    → entry_at keys key ≡ option_map key_entry_of o
-    → IsTrue (is_there (field_at field (entry_at keys key))) → IsSome o
-IsSome-slot keys key field None e there =
-    absurd (true≢false (sym there ∙ ap (λ x. is_there (field_at field x)) e))
-IsSome-slot keys key field (Some slot) e there = refl
-
--- a field that is there leaves few enough fields
-pub few_there : (moment : ℕ) (u : Slot) (field : List ℕ) (number : ℤ)
-    → IsLive moment (key_entry_of u)
-    → IsTrue (is_there (field_of field (hash_in (content_of u.value))))
-    → (before : Pairs) → content_of u.value ≡ Fields before
-    → length (with_field field number before) ≤ member_limit
-few_there moment u field number live there before e =
-    let found : IsSome (field_value field before) =
-    subst (λ (v : Content). IsTrue (is_there (field_of field (hash_in v)))) e there in
-    omega (arith, length-with_field_there field number before found, live.few_fields before e)
-
--- one field more, where there are fewer than a key may have
-pub few_more : (u : Slot) (field : List ℕ) (number : ℤ)
-    → ((pairs : Pairs) → hash_in (content_of u.value) ≡ Ok pairs → length pairs < member_limit)
-    → (before : Pairs) → content_of u.value ≡ Fields before
-    → length (with_field field number before) ≤ member_limit
-few_more u field number few before e =
-    omega (arith, length-with_field_le field number before, few before (ap hash_in e))
+-- a slot is there where what is shown has the member
+pub IsSome-member : (keys : Keys) (key : List ℕ) (addition : Addition) (o : Option Slot)
+    → entry_at keys key ≡ option_map key_entry_of o → HasMemberAt addition (entry_at keys key)
+    → IsSome o
+IsSome-member keys key addition None e there = absurd (subst (HasMemberAt addition) e there)
+IsSome-member keys key addition (Some slot) e there = refl
 
 -- what is prepared, once the memory for a member is spent or not
 pub plan_at-spent : (s t : Inside) (old : Keys) (key : List ℕ) (spent : Bool) → keys_inside s ≡ old
@@ -414,18 +381,14 @@ planned kind member (Some p) e =
     left true _ = refl
     left false h = h
 
--- so a hash that is there has room for a field
-pub HasRoom-planned : (s : Inside) (old : Keys) (key member : List ℕ) (u : Slot) → IsKeySpace s
-    → keys_inside s ≡ old → Some u ≡ get bytes_eq s.slots key
-    → is_plan_for HashKind member (plan_at old key) ≡ true → HasRoom u.value
-HasRoom-planned s old key member u kept view found for =
-    let plan = planned HashKind member (get bytes_eq s.spares key)
-    (ap (is_plan_for HashKind member) (sym (plan_at-read s old key _ view refl)) ∙ for) in
-    let room : IsRoomFor (get bytes_eq s.slots key) plan.0.kind =
-    (kept.ready key plan.0 plan.1).room in
-    let at_kind : IsRoomFor (get bytes_eq s.slots key) HashKind =
-    subst (IsRoomFor (get bytes_eq s.slots key)) (sym plan.2) room in
-    subst (λ (o : Option Slot). IsRoomFor o HashKind) (sym found) at_kind
+-- so a key that is there has room for a member
+pub HasRoom-planned : (s : Inside) (old : Keys) (key member : List ℕ) (kind : ValueKind) (u : Slot)
+    → IsKeySpace s → keys_inside s ≡ old → Some u ≡ get bytes_eq s.slots key
+    → is_plan_for kind member (plan_at old key) ≡ true → HasRoom u.value
+HasRoom-planned s old key member kind u kept view found for =
+    let plan = planned kind member (get bytes_eq s.spares key)
+    (ap (is_plan_for kind member) (sym (plan_at-read s old key _ view refl)) ∙ for) in
+    subst IsRoomFor (sym found) (kept.ready key plan.0 plan.1).room
 
 -- what follows from a fact beside a `Result`
 pub OnOk-then : {T E P Q : Type 0} (r : Result T E) → (P → Q) → OnOk r P → OnOk r Q
@@ -460,36 +423,31 @@ IsKeySpace-roomier s t kept moment spares entries expiries places room = record 
       (kept.ready key p (ap (λ m. get bytes_eq m key) (sym spares) ∙ at));
 }
 
--- a new hash with one field, and a new counter, are live
-pub IsLive-one_field : (moment : ℕ) (pairs : Pairs) (p : List ℕ × ℤ) → pairs ≡ p ∷ []
-    → IsLive moment (record { value = Fields pairs; expiry = None })
-IsLive-one_field moment pairs p one = record {
-  ahead = λ e at. absurd (cc at);
-  near = λ e at. absurd (cc at);
-  some_fields = λ qs at. let same : p ∷ [] ≡ qs = sym one ∙ cc at in
-      subst (λ (ps : Pairs). 0 < length ps) same (omega arith);
-  few_fields = λ qs at. let same : p ∷ [] ≡ qs = sym one ∙ cc at in
-      subst (λ (ps : Pairs). length ps ≤ member_limit) same (omega arith);
-}
+-- a key with one member is live
+pub IsLive-made : (moment : ℕ) (value : Stored) (addition : Addition)
+    → content_of value ≡ content_made addition → IsLiveSlot moment (new_slot value)
+IsLive-made moment value addition is =
+    let one : member_count (content_of value) ≡ 1 = ap member_count is
+    ∙ member_count-made addition in
+    record {
+      ahead = λ e at. absurd (cc at);
+      near = λ e at. absurd (cc at);
+      some = omega (arith, one);
+      few = omega (arith, one);
+    }
 
-pub IsLive-counter : (moment : ℕ) (number : ℤ)
-    → IsLive moment (record { value = Number number; expiry = None })
-IsLive-counter moment number = record {
-  ahead = λ e at. absurd (cc at);
-  near = λ e at. absurd (cc at);
-  some_fields = λ qs at. absurd (cc at);
-  few_fields = λ qs at. absurd (cc at);
-}
-
-pub IsLiveSlot-counter : (moment : ℕ) (u : Slot) (x : Stored) (number : ℤ)
-    → content_of x ≡ Number number → IsLiveSlot moment u
-    → IsLiveSlot moment (record u { value = x })
-IsLiveSlot-counter moment u x number is sound = record {
-  ahead = sound.ahead;
-  near = sound.near;
-  some_fields = λ qs at. absurd (cc (is, at));
-  few_fields = λ qs at. absurd (cc (is, at));
-}
+-- a key that is made, as a change of what is shown
+pub entry_at-made : (s t : Inside) (old : Keys) (key : List ℕ) (value : Stored)
+    (addition : Addition) → keys_inside s ≡ old → entry_at old key ≡ None
+    → WritesKey (get bytes_eq s.slots) (get bytes_eq t.slots) key (Some (new_slot value))
+    → content_of value ≡ content_made addition
+    → entry_at (keys_inside t)
+    ≡ with_key key (Some (entry_with addition (entry_at old key))) (entry_at old)
+entry_at-made s t old key value addition view absent sets is =
+    entry_at-set s t old key (Some (new_slot value)) view sets
+    ∙ ap (λ v. with_key {X = KeyEntry} key (Some (record { value = v; expiry = None }))
+    (entry_at old)) is
+    ∙ ap (λ e. with_key key (Some (entry_with addition e)) (entry_at old)) (sym absent)
 
 -- memory that was taken for a key, as the spares have it
 pub planned_spare : (s : Inside) (old : Keys) (key member : List ℕ) (kind : ValueKind)
@@ -505,16 +463,16 @@ pub IsSome-planned : (s : Inside) (old : Keys) (key member : List ℕ) (kind : V
 IsSome-planned s old key member kind view for =
     ap is_some (planned_spare s old key member kind view for).1
 
--- the memory for a hash: a table with no field, and room for two
-pub IsSpare-planned : (s : Inside) (old : Keys) (key member : List ℕ) (p : Spare) → IsKeySpace s
-    → keys_inside s ≡ old → is_plan_for HashKind member (plan_at old key) ≡ true
-    → get bytes_eq s.spares key ≡ Some p → (p.hash.pairs ≡ []) × (2 ≤ p.hash.room)
-IsSpare-planned s old key member p kept view for at =
-    let plan = planned_spare s old key member HashKind view for in
+-- the memory for a member of this kind
+pub IsSpareFor-planned : (s : Inside) (old : Keys) (key member : List ℕ) (kind : ValueKind)
+    (p : Spare) → IsKeySpace s → keys_inside s ≡ old
+    → is_plan_for kind member (plan_at old key) ≡ true → get bytes_eq s.spares key ≡ Some p
+    → IsSpareFor kind p.value
+IsSpareFor-planned s old key member kind p kept view for at =
+    let plan = planned_spare s old key member kind view for in
     let same : plan.0 ≡ p = cc (plan.1, at) in
-    let ready = kept.ready key p at in
-    let kind : HashKind ≡ p.kind = plan.2 ∙ ap (λ (x : Spare). x.kind) same in
-    (ready.empty, subst (λ (k : ValueKind). IsSpareFor k p.hash.room) (sym kind) ready.spare)
+    let of_kind : kind ≡ p.kind = plan.2 ∙ ap (λ (x : Spare). x.kind) same in
+    subst (λ (k : ValueKind). IsSpareFor k p.value) (sym of_kind) (kept.ready key p at).spare
 
 -- a change of one slot, after which the key is gone or not
 pub sets_then_gone : (f g h : List ℕ → Option Slot) (key : List ℕ) (w : Slot) (gone : Bool)
@@ -529,80 +487,95 @@ sets_then_gone f g h key w true sets goes q =
     by false = refl
 sets_then_gone f g h key w false sets goes q = goes q ∙ sets q
 
--- a slot is there where what is shown has a counter
-pub IsSome-counter : (keys : Keys) (key : List ℕ) (o : Option Slot)
-    → entry_at keys key ≡ option_map key_entry_of o
-    → IsTrue (is_there (counter_at (entry_at keys key))) → IsSome o
-IsSome-counter keys key None e there =
-    absurd (true≢false (sym there ∙ ap (λ x. is_there (counter_at x)) e))
-IsSome-counter keys key (Some slot) e there = refl
-
--- a value with a field less that isn't empty is one that a key may hold
-some_without_field : (value : Content) (pairs : Pairs) → is_empty_hash value ≡ false
-    → value ≡ Fields pairs → 0 < length pairs
-some_without_field value [] some e = absurd (true≢false (sym (ap is_empty_hash e) ∙ some))
-some_without_field value (p ∷ ps) some e = omega arith
-
-few_without_field : (field : List ℕ) (value : Content) (pairs : Pairs)
-    → ((before : Pairs) → value ≡ Fields before → length before ≤ member_limit)
-    → content_without_field field value ≡ Fields pairs → length pairs ≤ member_limit
-few_without_field field (Fields before) pairs few e =
-    let same : without_field field before ≡ pairs = cc e in
-    subst (λ (ps : Pairs). length ps ≤ member_limit) same
-    (le_trans (length-without_field field before) (few before refl))
-few_without_field field (Number n) pairs few e = absurd (cc e)
-
-pub IsLiveSlot-without_field : (moment : ℕ) (u : Slot) (x : Stored) (field : List ℕ)
-    (emptied : Bool) → IsLiveSlot moment u
-    → emptied ≡ is_empty_hash (content_without_field field (content_of u.value))
-    → (emptied ≡ false → content_of x ≡ content_without_field field (content_of u.value))
+-- a value with a member less that isn't empty is one that a key may hold
+pub IsLiveSlot-without : (moment : ℕ) (u : Slot) (x : Stored) (kind : ValueKind)
+    (member : List ℕ) (emptied : Bool) → IsLiveSlot moment u
+    → emptied ≡ is_empty (content_without kind member (content_of u.value))
+    → (emptied ≡ false → content_of x ≡ content_without kind member (content_of u.value))
     → ForSome (if emptied then None else Some (record u { value = x })) (IsLiveSlot moment)
-IsLiveSlot-without_field moment u x field true sound empty same = λ w at. absurd (cc at)
-IsLiveSlot-without_field moment u x field false sound empty same =
-    ForSome-some (IsLiveSlot moment) (record u { value = x }) (record {
-      ahead = sound.ahead;
-      near = sound.near;
-      some_fields = λ pairs e.
-          some_without_field (content_of x) pairs (ap is_empty_hash (same refl) ∙ sym empty) e;
-      few_fields = λ pairs e. few_without_field field (content_of u.value) pairs
-          sound.few_fields (sym (same refl) ∙ e);
-    })
+IsLiveSlot-without moment u x kind member true sound empty same = λ w at. absurd (cc at)
+IsLiveSlot-without moment u x kind member false sound empty same =
+    ForSome-some (IsLiveSlot moment) (record u { value = x })
+    (IsLiveSlot-changed moment u x (content_without kind member (content_of u.value)) sound
+    (same refl) (some_members (content_without kind member (content_of u.value)) (sym empty))
+    (le_trans (member_count-without kind member (content_of u.value)) sound.few))
 
-pub IsRoomFor-without_field : (o : Option Slot) (u w : Slot) (emptied : Bool) → Some u ≡ o
-    → (HasRoom u.value → HasRoom w.value) → (kind : ValueKind) → IsRoomFor o kind
-    → IsRoomFor (if emptied then None else Some w) kind
-IsRoomFor-without_field o u w true found keeps kind room = tt
-IsRoomFor-without_field o u w false found keeps kind room =
-    IsRoomFor-some o u w found keeps kind room
+pub IsRoomFor-without : (o : Option Slot) (u w : Slot) (emptied : Bool) → Some u ≡ o
+    → (HasRoom u.value → HasRoom w.value) → IsRoomFor o
+    → IsRoomFor (if emptied then None else Some w)
+IsRoomFor-without o u w true found keeps room = tt
+IsRoomFor-without o u w false found keeps room = IsRoomFor-some o u w found keeps room
 
-pub key_entry_of-without_field : (u : Slot) (x : Stored) (field : List ℕ) (emptied : Bool)
-    → emptied ≡ is_empty_hash (content_without_field field (content_of u.value))
-    → (emptied ≡ false → content_of x ≡ content_without_field field (content_of u.value))
+pub key_entry_of-without : (u : Slot) (x : Stored) (kind : ValueKind) (member : List ℕ)
+    (emptied : Bool) → emptied ≡ is_empty (content_without kind member (content_of u.value))
+    → (emptied ≡ false → content_of x ≡ content_without kind member (content_of u.value))
     → option_map key_entry_of (if emptied then None else Some (record u { value = x }))
-    ≡ entry_without_field field (Some (key_entry_of u))
-key_entry_of-without_field u x field true empty same =
+    ≡ entry_without kind member (Some (key_entry_of u))
+key_entry_of-without u x kind member true empty same =
     ap (λ (b : Bool). if b then None else Some (record {
-      value = content_without_field field (content_of u.value);
+      value = content_without kind member (content_of u.value);
       expiry = u.expiry;
     })) empty
-key_entry_of-without_field u x field false empty same =
+key_entry_of-without u x kind member false empty same =
     ap (λ v. Some (record { value = v; expiry = u.expiry })) (same refl)
     ∙ ap (λ (b : Bool). if b then None else Some (record {
-      value = content_without_field field (content_of u.value);
+      value = content_without kind member (content_of u.value);
       expiry = u.expiry;
     })) empty
 
 -- a hash with as many fields as a key may have takes no new one
-pub field_after_increment-full : (field : List ℕ) (by : ℤ) (h : Result Pairs KeyFault)
-    (takes : Bool) → field_of field h ≡ Ok None
-    → ((pairs : Pairs) → h ≡ Ok pairs → takes ≡ nat_lt (length pairs) member_limit) → takes ≡ false
-    → field_after_increment field by h ≡ Err TooMany
-field_after_increment-full field by (Err fault) takes absent counts full = absurd (cc absent)
-field_after_increment-full field by (Ok pairs) takes absent counts full =
-    let none : field_value field pairs ≡ None = cc absent in
-    let many : nat_lt (length pairs) member_limit ≡ false = sym (counts pairs refl) ∙ full in
-    ap (number_after_increment by (nat_lt (length pairs) member_limit)) none
-    ∙ ap (λ (b : Bool). if b then Ok by else Err TooMany) many
+pub field_after_increment-full : (field : List ℕ) (by : ℤ) (entry : Option KeyEntry)
+    → seen (field_value field) (hash_at entry) ≡ Ok None
+    → nat_lt (count_at entry) member_limit ≡ false
+    → field_after_increment field by (hash_at entry) ≡ Err TooMany
+field_after_increment-full field by entry absent full = in_entry entry absent full
+  where
+    in_pairs : (pairs : Pairs) → field_value field pairs ≡ None
+        → nat_lt (length pairs) member_limit ≡ false
+        → field_after_increment field by (Ok pairs) ≡ Err TooMany
+    in_pairs pairs none many =
+        ap (number_after_increment by (nat_lt (length pairs) member_limit)) none
+        ∙ ap (λ (b : Bool). if b then Ok by else Err TooMany) many
+
+    in_value : (value : Content) → seen (field_value field) (hash_in value) ≡ Ok None
+        → nat_lt (member_count value) member_limit ≡ false
+        → field_after_increment field by (hash_in value) ≡ Err TooMany
+    in_value (Fields pairs) none many = in_pairs pairs (cc none) many
+    in_value (Items items) none many = absurd (cc none)
+    in_value (Members members) none many = absurd (cc none)
+    in_value (Number n) none many = absurd (cc none)
+
+    in_entry : (e : Option KeyEntry) → seen (field_value field) (hash_at e) ≡ Ok None
+        → nat_lt (count_at e) member_limit ≡ false
+        → field_after_increment field by (hash_at e) ≡ Err TooMany
+    in_entry None none many = in_pairs [] refl many
+    in_entry (Some e) none many = in_value e.value none many
+
+-- and a sorted set with as many members takes no new one
+pub is_new_member-full : (member : List ℕ) (entry : Option KeyEntry)
+    → score_at member entry ≡ Ok None → nat_lt (count_at entry) member_limit ≡ false
+    → is_new_member member (zset_at entry) ≡ Err TooMany
+is_new_member-full member entry absent full = in_entry entry absent full
+  where
+    in_members : (members : Scores) → score_of member members ≡ None
+        → nat_lt (length members) member_limit ≡ false
+        → is_new_member member (Ok members) ≡ Err TooMany
+    in_members members none many =
+        ap (is_new_score (nat_lt (length members) member_limit)) none
+        ∙ ap (λ (b : Bool). if b then Ok true else Err TooMany) many
+
+    in_value : (value : Content) → seen (score_of member) (zset_in value) ≡ Ok None
+        → nat_lt (member_count value) member_limit ≡ false
+        → is_new_member member (zset_in value) ≡ Err TooMany
+    in_value (Fields pairs) none many = absurd (cc none)
+    in_value (Items items) none many = absurd (cc none)
+    in_value (Members members) none many = in_members members (cc none) many
+    in_value (Number n) none many = absurd (cc none)
+
+    in_entry : (e : Option KeyEntry) → score_at member e ≡ Ok None
+        → nat_lt (count_at e) member_limit ≡ false → is_new_member member (zset_at e) ≡ Err TooMany
+    in_entry None none many = in_members [] refl many
+    in_entry (Some e) none many = in_value e.value none many
 
 -- where the slots are shown as before, the entries stay
 pub entry_at-same : (s t : Inside) (keys : Keys) → keys_inside s ≡ keys
@@ -634,12 +607,10 @@ IsLiveSlot-KeepsSlot moment None (Some w) kept sound = absurd kept
 IsLiveSlot-KeepsSlot moment (Some u) (Some w) kept sound =
     ForSome-some (IsLiveSlot moment) w (subst (IsLive moment) (sym kept.0) (sound u refl))
 
-IsRoomFor-KeepsSlot : (o p : Option Slot) (kind : ValueKind) → KeepsSlot o p → IsRoomFor o kind
-    → IsRoomFor p kind
-IsRoomFor-KeepsSlot o None kind kept room = tt
-IsRoomFor-KeepsSlot None (Some w) kind kept room = absurd kept
-IsRoomFor-KeepsSlot (Some u) (Some w) kind kept room =
-    IsRoomFor-some (Some u) u w refl kept.1 kind room
+IsRoomFor-KeepsSlot : (o p : Option Slot) → KeepsSlot o p → IsRoomFor o → IsRoomFor p
+IsRoomFor-KeepsSlot o None kept room = tt
+IsRoomFor-KeepsSlot None (Some w) kept room = absurd kept
+IsRoomFor-KeepsSlot (Some u) (Some w) kept room = IsRoomFor-some (Some u) u w refl kept.1 room
 
 -- what is kept stays so where each slot is, and the spares are as before
 pub IsKeySpace-KeepsSlot : (s t : Inside) → IsKeySpace s → t.moment ≡ s.moment
@@ -664,9 +635,8 @@ IsKeySpace-KeepsSlot s t kept moment expiries spares shown slots room = record {
   room = le_trans (subst (λ (n : ℕ). n ≤ spare s.slots) (ap length (sym spares)) kept.room) room;
   ready = λ key p at. let r = kept.ready key p (ap (lookup (bytes_eq key)) (sym spares) ∙ at) in
       record {
-        empty = r.empty;
         spare = r.spare;
-        room = IsRoomFor-KeepsSlot (get bytes_eq s.slots key) (get bytes_eq t.slots key) p.kind
+        room = IsRoomFor-KeepsSlot (get bytes_eq s.slots key) (get bytes_eq t.slots key)
             (slots key) r.room;
       };
 }

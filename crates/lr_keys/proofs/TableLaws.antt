@@ -1,5 +1,5 @@
 -- Laws of tables: what stands at a key after `put`.
-use Rattle.std.proofs.Common.{◌≡◌, ◌≢◌, ℕ, Bool, true, false, cond, List, Option, None, refl, sym, ap, subst, ◌∙◌}
+use Rattle.std.proofs.Common.{◌≡◌, ◌≢◌, ℕ, Bool, true, false, cond, List, Option, None, refl, sym, ap, subst, ◌∙◌, true≢false}
 use Rattle.std.specs.Str.{bytes_eq}
 use Rattle.std.proofs.lemmas.Slice.Eq.{bytes_eq-Decides}
 use Rattle.lr_keys.specs.Table.{with_key}
@@ -18,6 +18,15 @@ bytes_eq-other key q apart = by (bytes_eq key q) refl
     by : (b : Bool) → bytes_eq key q ≡ b → b ≡ false
     by true e = absurd (apart (same_bytes key q e))
     by false e = refl
+
+-- either way round
+pub bytes_eq-sym : (key q : List ℕ) → bytes_eq key q ≡ bytes_eq q key
+bytes_eq-sym key q = by (bytes_eq q key) refl
+  where
+    by : (b : Bool) → bytes_eq q key ≡ b → bytes_eq key q ≡ b
+    by true e = ap (bytes_eq key) (same_bytes q key e) ∙ bytes_eq-same key
+    by false e = bytes_eq-other key q (λ same.
+        true≢false (sym (ap (bytes_eq q) same ∙ bytes_eq-same q) ∙ e))
 
 module _ {X : Type 0} (key : List ℕ) (value : Option X) (table : List ℕ → Option X) where
   -- what was put at the key stands there

@@ -1,22 +1,20 @@
 -- Keys with a value and an expiry or none, and what each call does to them, as the Redis command
 -- pages say.
+pub use Rattle.lr_keys.specs.Content.{Content, Fields, Items, Members, Number, kind_in, hash_in, list_in, zset_in, counter_in, member_count, is_empty, content_with_field, content_with_item, content_with_member, content_without_field, content_without_item, content_without_member}
 use Rattle.std.specs.Prelude.{◌≡◌, ◌+◌, ◌-◌, ◌≤◌, ◌<◌, ℕ, Bool, true, false, nat_lt, ◌&&◌, List, [], ◌∷◌, length, Option, Some, None, is_some, Result, Ok, Err, IsOk, ℤ, pos, negsuc, if◌then◌else◌}
 use Rattle.std.specs.Option.{ok_or, option_and_then, ForSome}
 use Rattle.std.specs.Str.{bytes_eq}
 use Rattle.std.specs.List.{list_any}
 use Rattle.std.specs.Map.{lookup}
 use Rattle.lr_limits.specs.Limits.{member_limit, last_moment, longest_lease}
+use Rattle.lr_lists.specs.Items.{times}
+use Rattle.lr_sorted.specs.Members.{Members as Scores, score_of}
 use Rattle.lr_keys.specs.declared.fault.KeyFault.{KeyFault}
-use Rattle.lr_keys.specs.declared.fault.KeyFault.TheVariants.{WrongKind, Overflow, TooMany, NoMemory}
+use Rattle.lr_keys.specs.declared.fault.KeyFault.TheVariants.{Overflow, TooMany, NoMemory}
 use Rattle.lr_keys.specs.declared.value_kind.ValueKind.{ValueKind}
 use Rattle.lr_keys.specs.declared.value_kind.ValueKind.TheVariants.{Hash, List as ListKind, Zset, Counter}
-use Rattle.lr_keys.specs.FieldMap.{Pairs, field_value, with_field, without_field, sum_of}
+use Rattle.lr_keys.specs.FieldMap.{Pairs, field_value, sum_of}
 use Rattle.lr_keys.specs.Table.{with_key, without_key_if}
-
--- what a key holds: the fields of a hash in order of making, or the number of a counter
-pub data Content : Type 0 where
-  Fields : Pairs → Content
-  Number : ℤ → Content
 
 -- a key's value, and the moment from which on the key is gone, if any
 pub record KeyEntry : Type 0 where
@@ -50,13 +48,13 @@ plan_at keys key = lookup (bytes_eq key) keys.plans
 abbrev pub IsPrepared : Keys → List ℕ → ValueKind → List ℕ → Type 0
 IsPrepared keys key kind member = plan_at keys key ≡ Some (record { kind = kind; member = member })
 
--- an entry of a key that is there at the moment: its expiry lies ahead, by a lease at most, and a
--- hash has a field at least, and no more than a key may have
+-- an entry of a key that is there at the moment: its expiry lies ahead, by a lease at most, and it
+-- has a member at least, and no more than a key may have
 pub record IsLive (moment : ℕ) (entry : KeyEntry) : Type 0 where
   pub ahead : ForSome entry.expiry (λ expiry. moment < expiry)
   pub near : ForSome entry.expiry (λ expiry. expiry ≤ last_moment + longest_lease)
-  pub some_fields : (pairs : Pairs) → entry.value ≡ Fields pairs → 0 < length pairs
-  pub few_fields : (pairs : Pairs) → entry.value ≡ Fields pairs → length pairs ≤ member_limit
+  pub some : 0 < member_count entry.value
+  pub few : member_count entry.value ≤ member_limit
 
 -- each key is there at the moment, and the moment is one that a clock shows
 pub record AreLive (keys : Keys) : Type 0 where
@@ -69,47 +67,55 @@ Answers show (Ok v) answer = answer ≡ Ok (show v)
 Answers show (Err NoMemory) answer = IsOk answer
 Answers show (Err fault) answer = answer ≡ Err fault
 
--- the kind of a value (Redis command page TYPE)
-abbrev pub kind_in : Content → ValueKind
-kind_in (Fields _) = Hash
-kind_in (Number _) = Counter
-
 -- the kind of the key's value, if the key is there
 abbrev pub kind_at : Option KeyEntry → Option ValueKind
 kind_at None = None
 kind_at (Some e) = Some (kind_in e.value)
-
--- the fields of a hash
-abbrev pub hash_in : Content → Result Pairs KeyFault
-hash_in (Fields pairs) = Ok pairs
-hash_in (Number _) = Err WrongKind
 
 -- the fields of the key's hash: an absent key is an empty hash (Redis command page HGETALL)
 abbrev pub hash_at : Option KeyEntry → Result Pairs KeyFault
 hash_at None = Ok []
 hash_at (Some e) = hash_in e.value
 
--- the number of a counter
-abbrev pub counter_in : Content → Result (Option ℤ) KeyFault
-counter_in (Number n) = Ok (Some n)
-counter_in (Fields _) = Err WrongKind
-
 -- the number of the key's counter, if the key is there (Redis command page GET)
 abbrev pub counter_at : Option KeyEntry → Result (Option ℤ) KeyFault
 counter_at None = Ok None
 counter_at (Some e) = counter_in e.value
 
--- the number of a field of a hash
-abbrev pub field_of : List ℕ → Result Pairs KeyFault → Result (Option ℤ) KeyFault
-field_of field (Ok pairs) = Ok (field_value field pairs)
-field_of field (Err fault) = Err fault
+-- the items of the key's list: an absent key is an empty list (Redis command page LRANGE)
+abbrev pub list_at : Option KeyEntry → Result (List (List ℕ)) KeyFault
+list_at None = Ok []
+list_at (Some e) = list_in e.value
+
+-- the members of the key's sorted set: an absent key is an empty one (Redis command page ZRANGE)
+abbrev pub zset_at : Option KeyEntry → Result Scores KeyFault
+zset_at None = Ok []
+zset_at (Some e) = zset_in e.value
+
+-- how many members the key has
+abbrev pub count_at : Option KeyEntry → ℕ
+count_at None = 0
+count_at (Some e) = member_count e.value
+
+-- what a look sees of a value of the right kind
+abbrev pub seen : {T U : Type 0} → (T → U) → Result T KeyFault → Result U KeyFault
+seen look (Ok value) = Ok (look value)
+seen look (Err fault) = Err fault
 
 -- the number of a field of the key's hash, if the field is there (Redis command page HGET)
 abbrev pub field_at : List ℕ → Option KeyEntry → Result (Option ℤ) KeyFault
-field_at field entry = field_of field (hash_at entry)
+field_at field entry = seen (field_value field) (hash_at entry)
+
+-- the score of a member of the key's sorted set, if the member is there (Redis command page ZSCORE)
+abbrev pub score_at : List ℕ → Option KeyEntry → Result (Option ℕ) KeyFault
+score_at member entry = seen (score_of member) (zset_at entry)
+
+-- how many items of the key's list are equal to this one (Redis command page LREM)
+abbrev pub times_at : List ℕ → Option KeyEntry → Result ℕ KeyFault
+times_at item entry = seen (times item) (list_at entry)
 
 -- whether the number is there
-abbrev pub is_there : Result (Option ℤ) KeyFault → Bool
+abbrev pub is_there : {T : Type 0} → Result (Option T) KeyFault → Bool
 is_there (Ok number) = is_some number
 is_there (Err _) = false
 
@@ -117,19 +123,17 @@ is_there (Err _) = false
 abbrev pub has_field : Keys → List ℕ → List ℕ → Bool
 has_field keys key field = is_there (field_at field (entry_at keys key))
 
+-- whether the key is a sorted set that has the member
+abbrev pub has_member : Keys → List ℕ → List ℕ → Bool
+has_member keys key member = is_there (score_at member (entry_at keys key))
+
 -- whether the key is a counter
 abbrev pub has_counter : Keys → List ℕ → Bool
 has_counter keys key = is_there (counter_at (entry_at keys key))
 
--- the key's hash, if it is one, has fewer fields than a key may have
-abbrev pub TakesField : Keys → List ℕ → Type 0
-TakesField keys key =
-    (pairs : Pairs) → hash_at (entry_at keys key) ≡ Ok pairs → length pairs < member_limit
-
--- whether the number was there, as a removal says (Redis command page HDEL)
-abbrev pub found_in : Result (Option ℤ) KeyFault → Result Bool KeyFault
-found_in (Ok number) = Ok (is_some number)
-found_in (Err fault) = Err fault
+-- whether the number was there, as a removal says (Redis command pages HDEL and ZREM)
+abbrev pub found_in : {T : Type 0} → Result (Option T) KeyFault → Result Bool KeyFault
+found_in number = seen is_some number
 
 -- what an increment makes of a number: a number that isn't there counts as 0, and may be refused
 -- for want of room (Redis command pages HINCRBY and INCRBY; the limit is this project's own)
@@ -148,45 +152,70 @@ abbrev pub counter_after_increment : ℤ → Result (Option ℤ) KeyFault → Re
 counter_after_increment by (Ok number) = number_after_increment by true number
 counter_after_increment by (Err fault) = Err fault
 
--- the value with this number for the field
-abbrev pub content_with_field : List ℕ → ℤ → Content → Content
-content_with_field field number (Fields pairs) = Fields (with_field field number pairs)
-content_with_field field number (Number n) = Number n
+-- how long a list is once an item is put behind its last: it takes as many items as a key may have
+-- members (Redis command page RPUSH)
+abbrev pub length_after_push : Result (List (List ℕ)) KeyFault → Result ℕ KeyFault
+length_after_push (Ok items) =
+    if nat_lt (length items) member_limit then Ok (length items + 1) else Err TooMany
+length_after_push (Err fault) = Err fault
 
--- the entry with this number for the field: an absent key is made with no expiry, and else the
--- expiry stays (Redis command page HINCRBY)
+-- whether a member that gets a score is new: a new one may be refused for want of room
+abbrev pub is_new_score : Bool → Option ℕ → Result Bool KeyFault
+is_new_score has_room (Some score) = Ok false
+is_new_score has_room None = if has_room then Ok true else Err TooMany
+
+-- whether a member of a sorted set is new, which takes as many as a key may have members (Redis
+-- command page ZADD)
+abbrev pub is_new_member : List ℕ → Result Scores KeyFault → Result Bool KeyFault
+is_new_member member (Ok members) =
+    is_new_score (nat_lt (length members) member_limit) (score_of member members)
+is_new_member member (Err fault) = Err fault
+
+-- the entry after a change: an absent key is made with this value and no expiry, and else the value
+-- changes so and the expiry stays
+abbrev pub entry_changed : Content → (Content → Content) → Option KeyEntry → KeyEntry
+entry_changed made change None = record { value = made; expiry = None }
+entry_changed made change (Some e) = record e { value = change e.value }
+
+-- the entry with this number for the field (Redis command page HINCRBY)
 abbrev pub entry_with_field : List ℕ → ℤ → Option KeyEntry → KeyEntry
-entry_with_field field number None =
-    record { value = Fields ((field, number) ∷ []); expiry = None }
-entry_with_field field number (Some e) =
-    record e { value = content_with_field field number e.value }
+entry_with_field field number =
+    entry_changed (Fields ((field, number) ∷ [])) (content_with_field field number)
 
--- the entry with this number of the counter: an absent key is made with no expiry, and else the
--- expiry stays (Redis command page INCRBY)
+-- the entry with the item last (Redis command page RPUSH)
+abbrev pub entry_with_item : List ℕ → Option KeyEntry → KeyEntry
+entry_with_item item = entry_changed (Items (item ∷ [])) (content_with_item item)
+
+-- the entry with this score for the member (Redis command page ZADD)
+abbrev pub entry_with_member : List ℕ → ℕ → Option KeyEntry → KeyEntry
+entry_with_member member score =
+    entry_changed (Members ((member, score) ∷ [])) (content_with_member member score)
+
+-- the entry with this number of the counter (Redis command page INCRBY)
 abbrev pub entry_with_number : ℤ → Option KeyEntry → KeyEntry
-entry_with_number number None = record { value = Number number; expiry = None }
-entry_with_number number (Some e) = record e { value = Number number }
+entry_with_number number = entry_changed (Number number) (λ _. Number number)
 
--- the value without the field
-abbrev pub content_without_field : List ℕ → Content → Content
-content_without_field field (Fields pairs) = Fields (without_field field pairs)
-content_without_field field (Number n) = Number n
-
--- whether a value is a hash with no fields
-abbrev pub is_empty_hash : Content → Bool
-is_empty_hash (Fields []) = true
-is_empty_hash (Fields (p ∷ ps)) = false
-is_empty_hash (Number n) = false
-
--- the entry with this value, which is none for an empty hash
+-- the entry with this value, which is none where the value has no members
 abbrev pub entry_with_value : Content → Option ℕ → Option KeyEntry
 entry_with_value value expiry =
-    if is_empty_hash value then None else Some (record { value = value; expiry = expiry })
+    if is_empty value then None else Some (record { value = value; expiry = expiry })
 
--- the entry without the field: a hash that becomes empty is removed (Redis command page HDEL)
+-- the entry after a removal: a key whose last member goes is removed
+abbrev pub entry_reduced : (Content → Content) → Option KeyEntry → Option KeyEntry
+entry_reduced change None = None
+entry_reduced change (Some e) = entry_with_value (change e.value) e.expiry
+
+-- the entry without the field (Redis command page HDEL)
 abbrev pub entry_without_field : List ℕ → Option KeyEntry → Option KeyEntry
-entry_without_field field None = None
-entry_without_field field (Some e) = entry_with_value (content_without_field field e.value) e.expiry
+entry_without_field field = entry_reduced (content_without_field field)
+
+-- the entry without the items that are equal to this one (Redis command page LREM)
+abbrev pub entry_without_item : List ℕ → Option KeyEntry → Option KeyEntry
+entry_without_item item = entry_reduced (content_without_item item)
+
+-- the entry without the member (Redis command page ZREM)
+abbrev pub entry_without_member : List ℕ → Option KeyEntry → Option KeyEntry
+entry_without_member member = entry_reduced (content_without_member member)
 
 -- the entry with this expiry (Redis command page PEXPIREAT)
 abbrev pub entry_with_expiry : ℕ → Option KeyEntry → Option KeyEntry
@@ -202,6 +231,15 @@ ChangesEntry old new key change =
 abbrev pub WritesField : Keys → Keys → List ℕ → List ℕ → ℤ → Type 0
 WritesField old new key field number =
     ChangesEntry old new key (λ e. Some (entry_with_field field number e))
+
+-- the item is last in the list afterwards, and nothing else of the keys is changed
+abbrev pub WritesItem : Keys → Keys → List ℕ → List ℕ → Type 0
+WritesItem old new key item = ChangesEntry old new key (λ e. Some (entry_with_item item e))
+
+-- the member has this score afterwards, and nothing else of the keys is changed
+abbrev pub WritesMember : Keys → Keys → List ℕ → List ℕ → ℕ → Type 0
+WritesMember old new key member score =
+    ChangesEntry old new key (λ e. Some (entry_with_member member score e))
 
 -- the counter has this number afterwards, and nothing else of the keys is changed
 abbrev pub WritesNumber : Keys → Keys → List ℕ → ℤ → Type 0

@@ -1,5 +1,5 @@
 -- How the fields of a key space, its slots and spares, stand for the keys that a contract sees.
-use Rattle.std.specs.Prelude.{◌≡◌, ◌≤◌, ◌<◌, ◌+◌, ℕ, ℤ, List, [], ◌∷◌, Option, Some, None, ⊤, map, length, get_or, slice_index, if◌then◌else◌}
+use Rattle.std.specs.Prelude.{◌≡◌, ◌≤◌, ◌<◌, ◌+◌, ℕ, ℤ, List, [], ◌∷◌, Option, Some, None, ⊤, IsTrue, map, length, get_or, slice_index, if◌then◌else◌}
 use Rattle.std.specs.Option.{ForSome}
 use Rattle.std.specs.Str.{bytes_eq}
 use Rattle.indexmap.specs.IndexMap.{get, spare, index_map_len}
@@ -8,23 +8,28 @@ use Rattle.lr_limits.specs.Limits.{last_moment}
 use Rattle.lr_keys.specs.declared.slot.Slot.{Slot}
 use Rattle.lr_keys.specs.declared.slot.Spare.{Spare}
 use Rattle.lr_keys.specs.declared.slot.Stored.{Stored}
-use Rattle.lr_keys.specs.declared.slot.Stored.TheVariants.{Single, Hash, Counter}
+use Rattle.lr_keys.specs.declared.slot.Stored.TheVariants.{Single, Hash, List as ListValue, Zset, Counter}
 use Rattle.lr_keys.specs.declared.value_kind.ValueKind.{ValueKind}
-use Rattle.lr_keys.specs.declared.value_kind.ValueKind.TheVariants.{Hash as HashKind}
+use Rattle.lr_keys.specs.declared.value_kind.ValueKind.TheVariants.{Hash as HashKind, List as ListKind, Zset as ZsetKind, Counter as CounterKind}
+use Rattle.lr_keys.specs.declared.addition.Addition.{Addition}
+use Rattle.lr_keys.specs.declared.addition.Addition.TheVariants.{Field, Item, Member, Number as NewNumber}
+use Rattle.lr_sorted.specs.Members.{score_of}
+use Rattle.lr_keys.specs.FieldMap.{field_value}
 use Rattle.lr_keys.specs.declared.key_space.KeySpace.TheInside.{Inside}
-use Rattle.lr_keys.specs.KeySpace.{Content, Fields, Number, KeyEntry, Plan, Keys, IsLive, is_ahead}
+use Rattle.lr_keys.specs.KeySpace.{Content, Fields, Items, Members, Number, KeyEntry, Plan, Keys, IsLive, is_ahead, is_there, seen, hash_in, zset_in, counter_in}
 
 -- what a stored value is to a contract
 abbrev pub content_of : Stored → Content
 content_of (Single field number) = Fields ((field, number) ∷ [])
-content_of (Hash fields) = Fields fields.pairs
+content_of (Hash fields) = Fields fields.value.pairs
+content_of (ListValue list) = Items list.value.items
+content_of (Zset set) = Members set.value.members
 content_of (Counter n) = Number n
 
 -- the field of a hash with no table
 abbrev pub single_of : Stored → Option (List ℕ × ℤ)
 single_of (Single field number) = Some (field, number)
-single_of (Hash _) = None
-single_of (Counter _) = None
+single_of other = None
 
 -- what a slot is
 abbrev pub key_entry_of : Slot → KeyEntry
@@ -50,28 +55,47 @@ keys_inside s = record {
   plans = plans_of s.spares.entries;
 }
 
--- the table of a hash has room for a field
+-- the value has what the addition gives a number or a score
+abbrev pub HasMember : Addition → Content → Type 0
+HasMember (Field field _) value = IsTrue (is_there (seen (field_value field) (hash_in value)))
+HasMember (Item _) value = ⊥
+HasMember (Member member _) value = IsTrue (is_there (seen (score_of member) (zset_in value)))
+HasMember (NewNumber _) value = IsTrue (is_there (counter_in value))
+
+-- the key has it
+abbrev pub HasMemberAt : Addition → Option KeyEntry → Type 0
+HasMemberAt addition None = ⊥
+HasMemberAt addition (Some e) = HasMember addition e.value
+
+-- the table of the value has room for so many new members
+abbrev pub HasRoomFor : ℕ → Stored → Type 0
+HasRoomFor more (Single _ _) = ⊤
+HasRoomFor more (Hash fields) = more ≤ fields.value.room
+HasRoomFor more (ListValue list) = more ≤ list.value.room
+HasRoomFor more (Zset set) = more ≤ set.value.room
+HasRoomFor more (Counter _) = ⊤
+
+-- it has room for one
 abbrev pub HasRoom : Stored → Type 0
-HasRoom (Single _ _) = ⊤
-HasRoom (Hash fields) = 0 < fields.room
-HasRoom (Counter _) = ⊤
+HasRoom value = HasRoomFor 1 value
 
--- what memory for a new member of this kind means where the key is there
-abbrev pub IsRoomFor : Option Slot → ValueKind → Type 0
-IsRoomFor None _ = ⊤
-IsRoomFor (Some slot) HashKind = HasRoom slot.value
-IsRoomFor (Some slot) _ = ⊤
+-- what that means where the key is there
+abbrev pub IsRoomFor : Option Slot → Type 0
+IsRoomFor None = ⊤
+IsRoomFor (Some slot) = HasRoom slot.value
 
--- what it means for the room of the spare table: a hash of one field can take a second
-abbrev pub IsSpareFor : ValueKind → ℕ → Type 0
-IsSpareFor HashKind room = 2 ≤ room
-IsSpareFor _ room = ⊤
+-- an empty value of the kind with room for two members: so a hash of one field can take a second
+abbrev pub IsSpareFor : ValueKind → Stored → Type 0
+IsSpareFor HashKind (Hash fields) = (fields.value.pairs ≡ []) × (2 ≤ fields.value.room)
+IsSpareFor ListKind (ListValue list) = (list.value.items ≡ []) × (2 ≤ list.value.room)
+IsSpareFor ZsetKind (Zset set) = (set.value.members ≡ []) × (2 ≤ set.value.room)
+IsSpareFor CounterKind (Counter _) = ⊤
+IsSpareFor _ _ = ⊥
 
 -- with this memory the member can be made, whether the key is there or not
 pub record IsReadySpare (slot : Option Slot) (s : Spare) : Type 0 where
-  pub empty : s.hash.pairs ≡ []
-  pub spare : IsSpareFor s.kind s.hash.room
-  pub room : IsRoomFor slot s.kind
+  pub spare : IsSpareFor s.kind s.value
+  pub room : IsRoomFor slot
 
 -- a slot is live
 abbrev pub IsLiveSlot : ℕ → Slot → Type 0

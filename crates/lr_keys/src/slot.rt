@@ -1,21 +1,25 @@
-ghost use Rattle.std.specs.Prelude.{◌≡◌, ℕ, ℤ, List, ◌<◌, ◌≤◌, [], ◌∷◌, length, None, false, IsTrue, IfOk, OnOk, OnErr};
-ghost use Rattle.lr_keys.specs.FieldMap.{Pairs};
-ghost use Rattle.lr_keys.specs.KeySpace.{Answers, Number, kind_in, hash_in, field_of, is_there, counter_in, content_with_field, content_without_field, is_empty_hash, is_plan_for};
-ghost use Rattle.lr_keys.specs.Slots.{content_of, plan_of, single_of, HasRoom, IsSpareFor};
+ghost use Rattle.std.specs.Prelude.{◌≡◌, [], ◌∷◌, IfOk, IfErr};
+ghost use Rattle.lr_keys.specs.FieldMap.{field_value};
+ghost use Rattle.lr_keys.specs.KeySpace.{Answers, kind_in, hash_in, list_in, zset_in, counter_in, seen, member_count, is_empty, is_plan_for};
+ghost use Rattle.lr_keys.specs.Slots.{content_of, plan_of, IsSpareFor};
 
 use super::fault::KeyFault;
 use super::field_map::FieldMap;
 use super::value_kind::ValueKind;
+use lr_lists::ItemList;
+use lr_sorted::SortedSet;
 use lr_text::Brief;
 use std::alloc::{AllocError, Global};
 
-/// The value of a key. Lists and sorted sets become two more variants.
+/// The value of a key.
 #[derive(Drop)]
 pub(crate) enum Stored {
     /// A hash of one field, which needs no table. What is held is most often such a hash.
     Single { field: Brief, number: i64 },
     /// A hash of several fields, or one that had several.
-    Hash(FieldMap),
+    Hash(Box<FieldMap>),
+    List(Box<ItemList>),
+    Zset(Box<SortedSet>),
     Counter(i64),
 }
 
@@ -31,9 +35,9 @@ pub(crate) struct Slot {
 pub(crate) struct Spare {
     pub(crate) kind: ValueKind,
     pub(crate) member: Brief,
-    /// A table with no fields. For the kind `Hash` it has room for two, so that a hash of one field
-    /// can take a second.
-    pub(crate) hash: FieldMap,
+    /// An empty value of that kind with room for two members, so that a hash of one field can take a
+    /// second. No key has an empty value.
+    pub(crate) value: Stored,
 }
 
 // One field and its number.
@@ -49,12 +53,15 @@ impl Stored {
     {
         match self {
             Stored::Single { .. } | Stored::Hash(_) => ValueKind::Hash,
+            Stored::List(_) => ValueKind::List,
+            Stored::Zset(_) => ValueKind::Zset,
             Stored::Counter(_) => ValueKind::Counter,
         }
     }
 
+    /// The number of a field of a hash.
     pub(crate) fn field(&self, field: &Brief) -> Result<Option<i64>, KeyFault>
-        ensures { result ≡ field_of field.now (hash_in (content_of self.now)) }
+        ensures { result ≡ seen (field_value field.now) (hash_in (content_of self.now)) }
     {
         match self {
             Stored::Single { field: own, number } => Ok(if *field == *own {
@@ -63,7 +70,38 @@ impl Stored {
                 None
             }),
             Stored::Hash(fields) => Ok(fields.get(field)),
-            Stored::Counter(_) => Err(KeyFault::WrongKind),
+            _ => Err(KeyFault::WrongKind),
+        }
+    }
+
+    /// The fields of a hash and their numbers.
+    pub(crate) fn pairs(&self, alloc: Global) -> Result<Vec<(Brief, i64)>, KeyFault>
+        ensures { Answers (λ pairs. pairs.items) result (hash_in (content_of self.now)) }
+    {
+        match self {
+            Stored::Single { field, number } => Ok(one_pair(alloc, field, *number)?),
+            Stored::Hash(fields) => Ok(fields.to_pairs(alloc)?),
+            _ => Err(KeyFault::WrongKind),
+        }
+    }
+
+    pub(crate) fn list(&self) -> Result<&ItemList, KeyFault>
+        ensures ok { IfOk result (λ l. list_in (content_of self.now) ≡ Ok l.now.items) }
+        ensures err { IfErr result (λ fault. list_in (content_of self.now) ≡ Err fault) }
+    {
+        match self {
+            Stored::List(list) => Ok(list),
+            _ => Err(KeyFault::WrongKind),
+        }
+    }
+
+    pub(crate) fn zset(&self) -> Result<&SortedSet, KeyFault>
+        ensures ok { IfOk result (λ s. zset_in (content_of self.now) ≡ Ok s.now.members) }
+        ensures err { IfErr result (λ fault. zset_in (content_of self.now) ≡ Err fault) }
+    {
+        match self {
+            Stored::Zset(set) => Ok(set),
+            _ => Err(KeyFault::WrongKind),
         }
     }
 
@@ -72,148 +110,31 @@ impl Stored {
     {
         match self {
             Stored::Counter(number) => Ok(Some(*number)),
-            Stored::Single { .. } | Stored::Hash(_) => Err(KeyFault::WrongKind),
+            _ => Err(KeyFault::WrongKind),
         }
     }
 
-    pub(crate) fn pairs(&self, alloc: Global) -> Result<Vec<(Brief, i64)>, KeyFault>
-        ensures { Answers (λ pairs. pairs.items) result (hash_in (content_of self.now)) }
+    /// How many members there are. A counter counts as one.
+    pub(crate) fn members(&self) -> usize
+        ensures { result ≡ member_count (content_of self.now) }
     {
         match self {
-            Stored::Single { field, number } => Ok(one_pair(alloc, field, *number)?),
-            Stored::Hash(fields) => Ok(fields.to_pairs(alloc)?),
-            Stored::Counter(_) => Err(KeyFault::WrongKind),
-        }
-    }
-
-    /// How many fields there are.
-    pub(crate) fn fields(&self) -> usize
-        ensures { (pairs : Pairs) → hash_in (content_of self.now) ≡ Ok pairs
-            → result ≡ length pairs }
-    {
-        match self {
-            Stored::Single { .. } => 1,
             Stored::Hash(fields) => fields.len(),
-            Stored::Counter(_) => 0,
+            Stored::List(list) => list.len(),
+            Stored::Zset(set) => set.len(),
+            Stored::Single { .. } | Stored::Counter(_) => 1,
         }
     }
 
-    /// Makes room for a new field in the table of a hash. What has no table gets one that was taken
-    /// for it, once it has a second field.
-    pub(crate) fn make_room(&mut self) -> Result<(), AllocError>
-        ensures value { content_of self.new ≡ content_of self.old }
-        ensures room { OnOk result (HasRoom self.new) }
-        ensures kept { HasRoom self.old → HasRoom self.new }
+    /// Whether there are none.
+    pub(crate) fn is_empty(&self) -> bool
+        ensures { result ≡ is_empty (content_of self.now) }
     {
         match self {
-            Stored::Hash(fields) => fields.reserve(1),
-            Stored::Single { .. } | Stored::Counter(_) => Ok(()),
-        }
-    }
-
-    /// Writes a field of a hash that has it.
-    pub(crate) fn write_field(&mut self, field: &Brief, number: i64)
-        requires { IsTrue (is_there (field_of field.now (hash_in (content_of self.old)))) }
-        ensures value { content_of self.new
-            ≡ content_with_field field.now number (content_of self.old) }
-        ensures room { HasRoom self.old → HasRoom self.new }
-    {
-        match self {
-            Stored::Single { number: own, .. } => *own = number,
-            Stored::Hash(fields) => fields.write(field, number),
-            Stored::Counter(_) => {}
-        }
-    }
-
-    /// Writes a counter.
-    pub(crate) fn write_counter(&mut self, number: i64)
-        requires { IsTrue (is_there (counter_in (content_of self.old))) }
-        ensures value { content_of self.new ≡ Number number }
-        ensures room { HasRoom self.new }
-    {
-        if let Stored::Counter(counter) = self {
-            *counter = number;
-        }
-    }
-
-    /// Puts a new field last in a hash. It takes memory, and leaves room for one field more.
-    pub(crate) fn add_field(
-        &mut self,
-        alloc: Global,
-        field: &Brief,
-        number: i64,
-    ) -> Result<(), AllocError>
-        ensures ok { OnOk result (content_of self.new
-            ≡ content_with_field field.now number (content_of self.old)) }
-        ensures err { OnErr result (content_of self.new ≡ content_of self.old) }
-        ensures room { HasRoom self.old → HasRoom self.new }
-    {
-        if self.single().is_some() {
-            self.widen(FieldMap::with_room(alloc, 3)?);
-        }
-        match self {
-            Stored::Hash(fields) => fields.add(field, number),
-            Stored::Single { .. } | Stored::Counter(_) => Ok(()),
-        }
-    }
-
-    /// Puts a new field last in a hash, for which there is room in its table. A hash of one field
-    /// gets this empty table.
-    pub(crate) fn put_field(&mut self, field: &Brief, number: i64, table: FieldMap)
-        requires room { HasRoom self.old }
-        requires empty { table.pairs ≡ [] }
-        requires two { 2 ≤ table.room }
-        ensures { content_of self.new ≡ content_with_field field.now number (content_of self.old) }
-    {
-        self.widen(table);
-        match self {
-            Stored::Hash(fields) => fields.push(field, number),
-            Stored::Single { .. } | Stored::Counter(_) => {}
-        }
-    }
-
-    // Gives a hash of one field this empty table.
-    fn widen(&mut self, table: FieldMap)
-        requires empty { table.pairs ≡ [] }
-        requires two { 2 ≤ table.room }
-        ensures value { content_of self.new ≡ content_of self.old }
-        ensures wide { single_of self.new ≡ None }
-        ensures room { HasRoom self.old → HasRoom self.new }
-    {
-        let Some((field, number)) = self.single() else {
-            return;
-        };
-        let mut fields = table;
-        fields.push(&field, number);
-        *self = Stored::Hash(fields);
-    }
-
-    // The field and the number of a hash with no table.
-    fn single(&self) -> Option<(Brief, i64)>
-        ensures { result ≡ single_of self.now }
-    {
-        match self {
-            Stored::Single { field, number } => Some((*field, *number)),
-            Stored::Hash(_) | Stored::Counter(_) => None,
-        }
-    }
-
-    /// Removes a field of a hash, and says whether it was the last one. A hash of one field stays as
-    /// it is where that is removed.
-    pub(crate) fn remove_field(&mut self, field: &Brief) -> bool
-        ensures value { result ≡ false → content_of self.new
-            ≡ content_without_field field.now (content_of self.old) }
-        ensures empty { result
-            ≡ is_empty_hash (content_without_field field.now (content_of self.old)) }
-        ensures room { HasRoom self.old → HasRoom self.new }
-    {
-        match self {
-            Stored::Single { field: own, .. } => *field == *own,
-            Stored::Hash(fields) => {
-                fields.remove(field);
-                fields.is_empty()
-            }
-            Stored::Counter(_) => false,
+            Stored::Hash(fields) => fields.is_empty(),
+            Stored::List(list) => list.is_empty(),
+            Stored::Zset(set) => set.is_empty(),
+            Stored::Single { .. } | Stored::Counter(_) => false,
         }
     }
 }
@@ -223,17 +144,12 @@ impl Spare {
     pub(crate) fn new(alloc: Global, kind: ValueKind, member: &Brief) -> Result<Self, AllocError>
         ensures kind { IfOk result (λ s. s.kind ≡ kind) }
         ensures member { IfOk result (λ s. s.member ≡ member.now) }
-        ensures empty { IfOk result (λ s. s.hash.pairs ≡ []) }
-        ensures room { IfOk result (λ s. IsSpareFor s.kind s.hash.room) }
+        ensures value { IfOk result (λ s. IsSpareFor s.kind s.value) }
     {
-        let fields = match kind {
-            ValueKind::Hash => 2,
-            _ => 0,
-        };
         Ok(Spare {
             kind,
             member: *member,
-            hash: FieldMap::with_room(alloc, fields)?,
+            value: Stored::empty(alloc, kind)?,
         })
     }
 

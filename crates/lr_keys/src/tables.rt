@@ -6,7 +6,6 @@ ghost use Rattle.lr_keys.specs.Slots.{KeepsSlot, IsRoomFor, new_slot, key_entrie
 ghost use Rattle.lr_keys.specs.Table.{WritesKey, without_key_if};
 
 use super::slot::{Slot, Spare, Stored};
-use super::value_kind::ValueKind;
 use indexmap::IndexMap;
 use lr_text::Brief;
 use std::alloc::AllocError;
@@ -21,41 +20,15 @@ pub(crate) fn take_spare(spares: &mut IndexMap<Brief, Spare>, key: &Brief) -> Sp
     spares.swap_remove(key).unwrap()
 }
 
-// Gives up the memory that was taken for the key.
-pub(crate) fn drop_spare(spares: &mut IndexMap<Brief, Spare>, key: &Brief)
-    requires { IsSome (get bytes_eq spares.old key.now) }
-    ensures spares { WritesKey (get bytes_eq spares.old) (get bytes_eq spares.new) key.now None }
-    ensures fewer { index_map_len spares.new + 1 ≡ index_map_len spares.old }
-{
-    let _spare = take_spare(spares, key);
-}
-
-// Makes room for a new member in the value at the key, if that is there and of this kind.
-pub(crate) fn make_room(
-    slots: &mut IndexMap<Brief, Slot>,
-    key: &Brief,
-    kind: ValueKind,
-) -> Result<(), AllocError>
-    ensures key_entry_of { key_entries_of slots.new.entries ≡ key_entries_of slots.old.entries }
+// Makes room for a new member in the value at the key, if that is there.
+pub(crate) fn make_room(slots: &mut IndexMap<Brief, Slot>, key: &Brief) -> Result<(), AllocError>
+    ensures shown { key_entries_of slots.new.entries ≡ key_entries_of slots.old.entries }
     ensures kept { (q : List ℕ) → KeepsSlot (get bytes_eq slots.old q) (get bytes_eq slots.new q) }
-    ensures room { OnOk result (IsRoomFor (get bytes_eq slots.new key.now) kind) }
-    ensures spare { spare slots.old ≤ spare slots.new }
-{
-    match kind {
-        ValueKind::Hash => make_hash_room(slots, key),
-        _ => Ok(()),
-    }
-}
-
-// Makes room for a field in the hash at the key, if there is one.
-fn make_hash_room(slots: &mut IndexMap<Brief, Slot>, key: &Brief) -> Result<(), AllocError>
-    ensures key_entry_of { key_entries_of slots.new.entries ≡ key_entries_of slots.old.entries }
-    ensures kept { (q : List ℕ) → KeepsSlot (get bytes_eq slots.old q) (get bytes_eq slots.new q) }
-    ensures room { OnOk result (IsRoomFor (get bytes_eq slots.new key.now) ValueKind.Hash) }
+    ensures room { OnOk result (IsRoomFor (get bytes_eq slots.new key.now)) }
     ensures spare { spare slots.old ≤ spare slots.new }
 {
     match slots.get_mut(key) {
-        Some(slot) => slot.value.make_room(),
+        Some(slot) => slot.value.make_room(1),
         None => Ok(()),
     }
 }

@@ -1,5 +1,5 @@
 use crate::{KeyFault, KeySpace, ValueKind};
-use lr_limits::{LAST_MOMENT, LONGEST_LEASE};
+use lr_limits::{LAST_MOMENT, LONGEST_LEASE, MOST_MEMBERS};
 use lr_text::Brief;
 use std::alloc::{AllocError, Global};
 use std::test::Fail;
@@ -202,5 +202,192 @@ fn next_expiry(rt: HostRuntime) -> Result<(), Fail> {
     let made = make_expiring(rt.alloc(), &mut keys, &first, &field, 5)
         && make_expiring(rt.alloc(), &mut keys, &second, &field, 3);
     assert!(rt; made && expire_in_turn(&mut keys, &first, &second));
+    Ok(())
+}
+
+// Whether an item is put last in a list, which then is so long.
+fn pushes(alloc: Global, keys: &mut KeySpace, list: &Brief, item: &[u8], length: u64) -> bool {
+    keys.rpush(alloc, list, &brief(item)) == Ok(length)
+}
+
+// Whether an item stands at a place of a list.
+fn is_at(keys: &KeySpace, list: &Brief, place: i64, item: &[u8]) -> bool {
+    keys.lindex(list, place) == Ok(Some(brief(item)))
+}
+
+// Whether a range of a list begins with an item and has so many.
+fn ranges(
+    alloc: Global,
+    keys: &KeySpace,
+    list: &Brief,
+    start: i64,
+    stop: i64,
+    first: Option<&[u8]>,
+    length: usize,
+) -> bool {
+    match keys.lrange(alloc, list, start, stop) {
+        Ok(items) => items.len() == length && items.get(0).map(|item| item.as_slice()) == first,
+        Err(_) => false,
+    }
+}
+
+// Whether a list is made of three items, as the page of LRANGE makes it.
+fn makes_list(alloc: Global, keys: &mut KeySpace, list: &Brief) -> bool {
+    pushes(alloc, keys, list, b"one", 1)
+        && pushes(alloc, keys, list, b"two", 2)
+        && pushes(alloc, keys, list, b"three", 3)
+}
+
+// Whether its places count from 0 and from -1, and there is none past the ends.
+fn has_places(keys: &KeySpace, list: &Brief) -> bool {
+    is_at(keys, list, 0, b"one")
+        && is_at(keys, list, -1, b"three")
+        && keys.lindex(list, 3) == Ok(None)
+        && keys.lindex(list, -4) == Ok(None)
+        && keys.llen(list) == Ok(3)
+}
+
+// Whether its ranges are those of the page of LRANGE.
+fn has_ranges(alloc: Global, keys: &KeySpace, list: &Brief) -> bool {
+    ranges(alloc, keys, list, 0, 0, Some(b"one".as_slice()), 1)
+        && ranges(alloc, keys, list, -3, 2, Some(b"one".as_slice()), 3)
+        && ranges(alloc, keys, list, -100, 100, Some(b"one".as_slice()), 3)
+        && ranges(alloc, keys, list, 5, 10, None, 0)
+}
+
+// Whether all equal items go at once, and the list with the last one.
+fn loses_items(alloc: Global, keys: &mut KeySpace, list: &Brief) -> bool {
+    pushes(alloc, keys, list, b"one", 4)
+        && keys.lrem(list, &brief(b"one")) == Ok(2)
+        && keys.lrem(list, &brief(b"one")) == Ok(0)
+        && is_at(keys, list, 0, b"two")
+        && keys.lrem(list, &brief(b"two")) == Ok(1)
+        && keys.kind_of(list) == Some(ValueKind::List)
+        && keys.lrem(list, &brief(b"three")) == Ok(1)
+        && !keys.exists(list)
+}
+
+#[test]
+fn lists(rt: HostRuntime) -> Result<(), Fail> {
+    let mut keys = KeySpace::new(rt.alloc())?;
+    let list = brief(b"mylist");
+    let made = makes_list(rt.alloc(), &mut keys, &list);
+    let seen = has_places(&keys, &list) && has_ranges(rt.alloc(), &keys, &list);
+    assert!(rt; made && seen && loses_items(rt.alloc(), &mut keys, &list));
+    Ok(())
+}
+
+// Whether a member gets a score, and is new or not.
+fn scores(
+    alloc: Global,
+    keys: &mut KeySpace,
+    zset: &Brief,
+    member: &[u8],
+    score: u64,
+    new: bool,
+) -> bool {
+    keys.zadd(alloc, zset, &brief(member), score) == Ok(new)
+        && keys.zscore(zset, &brief(member)) == Ok(Some(score))
+}
+
+// Whether a member stands at a place of a sorted set.
+fn ranks(keys: &KeySpace, zset: &Brief, place: i64, member: &[u8], score: u64) -> bool {
+    keys.zindex(zset, place) == Ok(Some((brief(member), score)))
+}
+
+// Whether a sorted set is made of four members, as the page of ZADD makes it.
+fn makes_zset(alloc: Global, keys: &mut KeySpace, zset: &Brief) -> bool {
+    scores(alloc, keys, zset, b"three", 3, true)
+        && scores(alloc, keys, zset, b"one", 7, true)
+        && scores(alloc, keys, zset, b"uno", 1, true)
+        && scores(alloc, keys, zset, b"two", 2, true)
+        && scores(alloc, keys, zset, b"one", 1, false)
+}
+
+// Whether they stand in order of score and then of their bytes.
+fn has_ranks(keys: &KeySpace, zset: &Brief) -> bool {
+    ranks(keys, zset, 0, b"one", 1)
+        && ranks(keys, zset, 1, b"uno", 1)
+        && ranks(keys, zset, -1, b"three", 3)
+        && keys.zindex(zset, 4) == Ok(None)
+        && keys.zcard(zset) == Ok(4)
+}
+
+// Whether the members from the third on are these, as the page of ZRANGE says.
+fn has_last_two(alloc: Global, keys: &KeySpace, zset: &Brief) -> bool {
+    match keys.zrange(alloc, zset, -2, 10) {
+        Ok(members) => members.as_slice() == [(brief(b"two"), 2), (brief(b"three"), 3)].as_slice(),
+        Err(_) => false,
+    }
+}
+
+// Whether members go, and the sorted set with the last one.
+fn loses_members(keys: &mut KeySpace, zset: &Brief) -> bool {
+    keys.zrem(zset, &brief(b"one")) == Ok(true)
+        && keys.zrem(zset, &brief(b"one")) == Ok(false)
+        && ranks(keys, zset, 0, b"uno", 1)
+        && keys.zrem(zset, &brief(b"uno")) == Ok(true)
+        && keys.zrem(zset, &brief(b"three")) == Ok(true)
+        && keys.kind_of(zset) == Some(ValueKind::Zset)
+        && keys.zrem(zset, &brief(b"two")) == Ok(true)
+        && !keys.exists(zset)
+}
+
+#[test]
+fn sorted_sets(rt: HostRuntime) -> Result<(), Fail> {
+    let mut keys = KeySpace::new(rt.alloc())?;
+    let zset = brief(b"myzset");
+    let made = makes_zset(rt.alloc(), &mut keys, &zset);
+    let seen = has_ranks(&keys, &zset) && has_last_two(rt.alloc(), &keys, &zset);
+    assert!(rt; made && seen && loses_members(&mut keys, &zset));
+    Ok(())
+}
+
+// Whether a counter is no list and no sorted set.
+fn is_no_other(alloc: Global, keys: &mut KeySpace, counter: &Brief, item: &Brief) -> bool {
+    keys.incrby(counter, 5) == Ok(5)
+        && keys.rpush(alloc, counter, item) == Err(KeyFault::WrongKind)
+        && keys.zadd(alloc, counter, item, 1) == Err(KeyFault::WrongKind)
+        && keys.get(counter) == Ok(Some(5))
+}
+
+// Whether a list takes as many items as a key may have members, and no more.
+fn fills(alloc: Global, keys: &mut KeySpace, list: &Brief, item: &Brief) -> bool {
+    for _ in 0..MOST_MEMBERS {
+        if keys.rpush(alloc, list, item).is_err() {
+            return false;
+        }
+    }
+    keys.rpush(alloc, list, item) == Err(KeyFault::TooMany)
+        && keys.llen(list) == Ok(MOST_MEMBERS as u64)
+}
+
+#[test]
+fn list_refusals(rt: HostRuntime) -> Result<(), Fail> {
+    let mut keys = KeySpace::new(rt.alloc())?;
+    let (counter, list, item) = (brief(b"counter"), brief(b"list"), brief(b"item"));
+    let refused = is_no_other(rt.alloc(), &mut keys, &counter, &item);
+    assert!(rt; refused && fills(rt.alloc(), &mut keys, &list, &item));
+    Ok(())
+}
+
+// Whether an item and a member find the memory that was taken for them, though the keys were made
+// and removed before.
+fn serves_others(alloc: Global, keys: &mut KeySpace, list: &Brief, zset: &Brief) -> bool {
+    pushes(alloc, keys, list, b"other", 1)
+        && keys.del(list)
+        && pushes(alloc, keys, list, b"item", 1)
+        && scores(alloc, keys, zset, b"other", 2, true)
+        && scores(alloc, keys, zset, b"member", 1, true)
+        && ranks(keys, zset, 0, b"member", 1)
+}
+
+#[test]
+fn prepared_members(rt: HostRuntime) -> Result<(), Fail> {
+    let mut keys = KeySpace::new(rt.alloc())?;
+    let (list, zset) = (brief(b"list"), brief(b"zset"));
+    keys.prepare(rt.alloc(), &list, ValueKind::List, &brief(b"item"))?;
+    keys.prepare(rt.alloc(), &zset, ValueKind::Zset, &brief(b"member"))?;
+    assert!(rt; serves_others(rt.alloc(), &mut keys, &list, &zset));
     Ok(())
 }

@@ -16,7 +16,7 @@ invariant_of-self c =
     let removed = c.remove_slot.ensures in
     IsKeySpace-set c.self.inside (after c) c.args.key.now None c.self.invariant refl refl
     removed.slots removed.expiries (omega (arith, removed.fewer)) removed.places removed.room
-    (λ slot at. absurd (cc at)) (λ kind h. tt)
+    (λ slot at. absurd (cc at)) (λ h. tt)
 
 pub returns-clause-found : goal.returns-clause-found
 returns-clause-found c =

@@ -1,9 +1,9 @@
-use Rattle.std.proofs.Common.{Some, refl, sym, ap, subst, ◌∙◌, arith}
+use Rattle.std.proofs.Common.{Some, refl, ap, ◌∙◌, arith}
 use Rattle.std.specs.Str.{bytes_eq}
 use Rattle.indexmap.specs.IndexMap.{get}
 use Rattle.lr_keys.specs.declared.key_space.KeySpace.TheInside.{Inside}
 use Rattle.lr_keys.specs.KeySpace.{Plan, plan_at}
-use Rattle.lr_keys.specs.Slots.{IsReadySpare, IsRoomFor, key_entries_of}
+use Rattle.lr_keys.specs.Slots.{IsReadySpare, key_entries_of}
 use Rattle.lr_keys.specs.Table.{with_key}
 use Rattle.lr_keys.proofs.ExpiryLemmas.{length_shown}
 use Rattle.lr_keys.proofs.SlotLemmas.{IsKeySpace-prepared, IsKeySpace-roomier, IsKeySpace-KeepsSlot, entry_at-same, one_at_most, plan_at-set}
@@ -26,7 +26,7 @@ invariant_of-self-in_err-make_room c =
     IsKeySpace-KeepsSlot before (record before { slots = c.make_room.new.slots })
     (IsKeySpace-roomier c.self.inside before c.self.invariant refl refl made.entries
     made.expiries made.longer made.kept)
-    refl refl refl c.make_room.ensures.key_entry_of c.make_room.ensures.kept
+    refl refl refl c.make_room.ensures.shown c.make_room.ensures.kept
     c.make_room.ensures.spare
 
 pub invariant_of-self-in_err-insert : goal.invariant_of-self-in_err-insert
@@ -40,7 +40,7 @@ invariant_of-self-in_err-insert c =
     (record before { slots = c.make_room.new.slots; spares = c.insert.new.self })
     (IsKeySpace-roomier c.self.inside before c.self.invariant refl refl made.entries
     made.expiries made.longer made.kept)
-    refl refl c.in_err-insert.ensures.err c.make_room.ensures.key_entry_of
+    refl refl c.in_err-insert.ensures.err c.make_room.ensures.shown
     c.make_room.ensures.kept c.make_room.ensures.spare
 
 -- the fields after the call
@@ -63,20 +63,18 @@ invariant_of-self-2 c =
     let kept = IsKeySpace-KeepsSlot before roomier
     (IsKeySpace-roomier c.self.inside before c.self.invariant refl refl made.entries
     made.expiries made.longer made.kept)
-    refl refl refl c.make_room.ensures.key_entry_of c.make_room.ensures.kept
+    refl refl refl c.make_room.ensures.shown c.make_room.ensures.kept
     c.make_room.ensures.spare in
     let ready : IsReadySpare (get bytes_eq c.make_room.new.slots c.args.key.now) p = record {
-      empty = c.in_ok-spare.ensures.empty;
-      spare = c.in_ok-spare.ensures.room;
-      room = subst (IsRoomFor (get bytes_eq c.make_room.new.slots c.args.key.now))
-          (sym c.in_ok-spare.ensures.kind) c.in_ok-make_room.ensures.room;
+      spare = c.in_ok-spare.ensures.value;
+      room = c.in_ok-make_room.ensures.room;
     } in
     IsKeySpace-prepared roomier (after c) c.args.key.now p kept refl refl refl
     c.in_ok-insert.ensures.updates.0
     (omega (
       arith,
       c.in_ok-make_place.ensures.places,
-      length_shown _ _ c.make_room.ensures.key_entry_of,
+      length_shown _ _ c.make_room.ensures.shown,
       c.in_ok-insert.ensures.len,
       one_at_most,
     ))
@@ -103,4 +101,4 @@ returns-clause-prepared c =
 pub returns-clause-entries : goal.returns-clause-entries
 returns-clause-entries c =
     entry_at-same c.self.inside (after c) c.args.self.now c.self.view_is
-    (c.make_room.ensures.key_entry_of ∙ ap key_entries_of c.make_place.ensures.entries)
+    (c.make_room.ensures.shown ∙ ap key_entries_of c.make_place.ensures.entries)

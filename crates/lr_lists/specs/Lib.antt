@@ -1,0 +1,4 @@
+pub mod Counts
+pub mod Inside
+pub mod Items
+pub mod Places
