@@ -1,56 +1,65 @@
 //! The call of a function of a countdown latch.
 ghost use Rattle.std.specs.Prelude.{◌≡◌, ◌≤◌, ℕ, [], Option, None, max, false, IsTrue, IsOk, IfOk, OnOk, OnErr};
 ghost use Rattle.lr_names.specs.Key.{key_text, keys_of};
+ghost use Rattle.lr_names.specs.Name.{IsName};
 ghost use Rattle.lr_keys.specs.KeySpace.{ChangesOnly, IsPrepared, OthersAreLive, StaysSame, entry_at, live_entry, plan_at};
 ghost use Rattle.lr_limits.specs.Limits.{amount_limit, last_moment};
 ghost use Rattle.lr_model.specs.Answer.{Objects, answer, reply_of, objects_after, post_of};
-ghost use Rattle.lr_objects.specs.Op.{IsCall, kind_of, name_of};
+ghost use Rattle.lr_model.specs.Countdown.{countdown_call};
 ghost use Rattle.lr_counter.specs.Numbers.{IsNumberAt, number_entry_of, some_unless_zero};
 ghost use Rattle.lr_counter.specs.Run.{IsNumberRun};
 ghost use Rattle.lr_counter.specs.Step.{IsNumberStep};
-ghost use Rattle.lr_countdown.specs.Run.{makes_key, outcome_of};
+ghost use Rattle.lr_countdown.specs.Run.{makes_key, countdown_op};
 ghost use Rattle.lr_countdown.specs.Stands.{CountdownsStand};
 
 use crate::functions::{latch_count, latch_down, latch_set};
 use lr_counter::make_room;
 use lr_keys::{KeySpace, ValueKind};
 use lr_names::{Kind, Name, Part, Post, key};
-use lr_objects::{Op, Reply};
+use lr_objects::{CountdownCall, Reply};
 use lr_text::Brief;
 use std::alloc::{AllocError, Global};
 
 // Takes the memory of the key, for a call that makes it where it isn't there.
-fn take_memory(alloc: Global, keys: &mut KeySpace, key: &Brief, op: &Op) -> Result<(), AllocError>
-    ensures room { OnOk result (IsTrue (makes_key op.now (entry_at keys.old key.now))
+fn take_memory(
+    alloc: Global,
+    keys: &mut KeySpace,
+    key: &Brief,
+    call: &CountdownCall,
+) -> Result<(), AllocError>
+    ensures room { OnOk result (IsTrue (makes_key call.now (entry_at keys.old key.now))
         → IsPrepared keys.new key.now ValueKind.Counter []) }
     ensures stays { StaysSame keys.old keys.new }
     ensures succeeds { (moment : ℕ)
-        → makes_key op.now (live_entry moment (entry_at keys.old key.now)) ≡ false → IsOk result }
+        → makes_key call.now (live_entry moment (entry_at keys.old key.now)) ≡ false → IsOk result }
     ensures err { OnErr result (keys.new ≡ keys.old) }
 {
-    match op {
-        Op::LatchSet { .. } => make_room(alloc, keys, key),
+    match call {
+        CountdownCall::Set { .. } => make_room(alloc, keys, key),
         _ => Ok(()),
     }
 }
 
 // The step of a function on the number, at the moment of the keys.
-fn step(keys: &mut KeySpace, key: &Brief, op: &Op) -> (Reply, Option<Post>)
-    requires { kind_of op.now ≡ Kind.Countdown }
+fn step(
+    keys: &mut KeySpace,
+    key: &Brief,
+    name: &Name,
+    call: &CountdownCall,
+) -> (Reply, Option<Post>)
     ensures step { (count : ℕ)
         → IsNumberAt amount_limit (entry_at keys.old key.now) (some_unless_zero count)
-        → (IsTrue (makes_key op.now (number_entry_of (some_unless_zero count)))
+        → (IsTrue (makes_key call.now (number_entry_of (some_unless_zero count)))
         → IsPrepared keys.old key.now ValueKind.Counter [])
         → IsNumberStep some_unless_zero amount_limit keys.new key.now result
-        (outcome_of op.now count) }
+        (countdown_call name.now call.now count) }
     ensures others { ChangesOnly key.now keys.old keys.new }
     ensures moment { keys.new.moment ≡ keys.old.moment }
 {
-    match op {
-        Op::LatchSet { number, .. } => latch_set(keys, key, number),
-        Op::LatchDown { name } => latch_down(keys, key, name),
-        Op::LatchCount { .. } => latch_count(keys, key),
-        _ => unreachable!(),
+    match call {
+        CountdownCall::Set { number } => latch_set(keys, key, number),
+        CountdownCall::Down => latch_down(keys, key, name),
+        CountdownCall::Count => latch_count(keys, key),
     }
 }
 
@@ -59,22 +68,24 @@ fn answer(
     alloc: Global,
     keys: &mut KeySpace,
     moment: u64,
-    op: &Op,
+    name: &Name,
+    call: &CountdownCall,
 ) -> Result<(Reply, Option<Post>), AllocError>
-    requires kind { kind_of op.now ≡ Kind.Countdown }
+    requires name { IsName name.now }
     requires early { moment ≤ last_moment }
     ensures run { let m = max keys.old.moment moment in IfOk result (λ r.
         IsNumberRun CountdownsStand keys.old keys.new m
-        (key_text Part.Countdown (name_of op.now)) r (λ objects. answer objects m op.now)) }
+        (key_text Part.Countdown name.now) r
+        (λ objects. answer objects m (countdown_op name.now call.now))) }
     ensures succeeds { let m = max keys.old.moment moment in
-        let key = key_text Part.Countdown (name_of op.now) in
-        makes_key op.now (live_entry m (entry_at keys.old key)) ≡ false → IsOk result }
+        let key = key_text Part.Countdown name.now in
+        makes_key call.now (live_entry m (entry_at keys.old key)) ≡ false → IsOk result }
     ensures err { OnErr result (keys.new ≡ keys.old) }
 {
-    let key = key(Part::Countdown, op.name());
-    take_memory(alloc, keys, &key, op)?;
+    let key = key(Part::Countdown, name);
+    take_memory(alloc, keys, &key, call)?;
     keys.advance(moment);
-    Ok(step(keys, &key, op))
+    Ok(step(keys, &key, name, call))
 }
 
 /// Runs a function of a countdown latch, as one step at a moment in milliseconds, or at that of the
@@ -90,27 +101,31 @@ pub fn run(
     alloc: Global,
     keys: &mut KeySpace,
     moment: u64,
-    op: &Op,
+    name: &Name,
+    call: &CountdownCall,
 ) -> Result<(Reply, Option<Post>), AllocError>
-    requires kind { kind_of op.now ≡ Kind.Countdown }
     requires early { moment ≤ last_moment }
     ensures reply { let m = max keys.old.moment moment in IfOk result (λ r.
-        (objects : Objects) → CountdownsStand keys.old objects → r.0 ≡ reply_of objects m op.now) }
+        (objects : Objects) → CountdownsStand keys.old objects
+        → r.0 ≡ reply_of objects m (countdown_op name.now call.now)) }
     ensures post { let m = max keys.old.moment moment in IfOk result (λ r.
-        (objects : Objects) → CountdownsStand keys.old objects → r.1 ≡ post_of objects m op.now) }
+        (objects : Objects) → CountdownsStand keys.old objects
+        → r.1 ≡ post_of objects m (countdown_op name.now call.now)) }
     ensures stands { let m = max keys.old.moment moment in
         OnOk result ((objects : Objects) → CountdownsStand keys.old objects
-        → CountdownsStand keys.new (objects_after objects m op.now)) }
+        → CountdownsStand keys.new (objects_after objects m (countdown_op name.now call.now))) }
     ensures frame { OnOk result
-        (OthersAreLive (keys_of Kind.Countdown (name_of op.now)) keys.old keys.new) }
+        (OthersAreLive (keys_of Kind.Countdown name.now) keys.old keys.new) }
     ensures moment { OnOk result (keys.new.moment ≡ max keys.old.moment moment) }
     ensures settled { OnOk result (plan_at keys.new ≡ (λ _. None)) }
     ensures succeeds { let m = max keys.old.moment moment in
-        let key = key_text Part.Countdown (name_of op.now) in
-        makes_key op.now (live_entry m (entry_at keys.old key)) ≡ false → IsOk result }
+        let key = key_text Part.Countdown name.now in
+        makes_key call.now (live_entry m (entry_at keys.old key)) ≡ false → IsOk result }
     ensures err { OnErr result (keys.new ≡ keys.old) }
 {
-    let answer = answer(alloc, keys, moment, op)?;
+    // What the type of the name says of it.
+    let _text = name.as_slice();
+    let answer = answer(alloc, keys, moment, name, call)?;
     keys.settle();
     Ok(answer)
 }

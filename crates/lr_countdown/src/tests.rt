@@ -1,24 +1,15 @@
 use crate::run;
 use lr_keys::KeySpace;
 use lr_limits::MOST_AMOUNT;
-use lr_names::{Kind, Name, Part, key};
-use lr_objects::{Amount, Integer, Op, Reply};
+use lr_names::{Name, Part, key};
+use lr_objects::{Amount, CountdownCall, Integer, Reply};
 use std::alloc::Global;
 use std::test::Fail;
 
-fn set(name: &Name, number: u64) -> Op {
-    Op::LatchSet {
-        name: *name,
+fn set(number: u64) -> CountdownCall {
+    CountdownCall::Set {
         number: Amount::new(number.max(1).min(MOST_AMOUNT)),
     }
-}
-
-fn down(name: &Name) -> Op {
-    Op::LatchDown { name: *name }
-}
-
-fn count(name: &Name) -> Op {
-    Op::LatchCount { name: *name }
 }
 
 fn counted(number: u64) -> Reply {
@@ -26,20 +17,29 @@ fn counted(number: u64) -> Reply {
 }
 
 // Whether a call is answered so, with a message or without.
-fn answers(alloc: Global, keys: &mut KeySpace, op: &Op, wanted: &Reply, posted: bool) -> bool {
-    match op.kind() {
-        Kind::Countdown => match run(alloc, keys, 7, op) {
-            Ok((reply, post)) => reply == *wanted && post.is_some() == posted,
-            Err(_) => false,
-        },
-        _ => false,
+fn answers(
+    alloc: Global,
+    keys: &mut KeySpace,
+    name: &Name,
+    call: &CountdownCall,
+    wanted: &Reply,
+    posted: bool,
+) -> bool {
+    match run(alloc, keys, 7, name, call) {
+        Ok((reply, post)) => reply == *wanted && post.is_some() == posted,
+        Err(_) => false,
     }
 }
 
 // Whether calls are answered so, one after another.
-fn all_answer(alloc: Global, keys: &mut KeySpace, calls: &[(Op, Reply, bool)]) -> bool {
-    for (op, wanted, posted) in calls {
-        if !answers(alloc, keys, op, wanted, *posted) {
+fn all_answer(
+    alloc: Global,
+    keys: &mut KeySpace,
+    name: &Name,
+    calls: &[(CountdownCall, Reply, bool)],
+) -> bool {
+    for (call, wanted, posted) in calls {
+        if !answers(alloc, keys, name, call, wanted, *posted) {
             return false;
         }
     }
@@ -49,22 +49,22 @@ fn all_answer(alloc: Global, keys: &mut KeySpace, calls: &[(Op, Reply, bool)]) -
 // Whether a latch that is set to 1 is told when that one is counted, and its key goes.
 fn is_counted(alloc: Global, keys: &mut KeySpace, name: &Name) -> bool {
     let calls = [
-        (set(name, 1), Reply::Set, false),
-        (count(name), counted(1), false),
-        (down(name), counted(0), true),
+        (set(1), Reply::Set, false),
+        (CountdownCall::Count, counted(1), false),
+        (CountdownCall::Down, counted(0), true),
     ];
-    all_answer(alloc, keys, &calls) && !keys.exists(&key(Part::Countdown, name))
+    all_answer(alloc, keys, name, &calls) && !keys.exists(&key(Part::Countdown, name))
 }
 
 // Whether a latch at 0 stays there until it is set again.
 fn is_set_again(alloc: Global, keys: &mut KeySpace, name: &Name) -> bool {
     let calls = [
-        (down(name), counted(0), false),
-        (set(name, MOST_AMOUNT), Reply::Set, false),
-        (set(name, 1), Reply::AlreadySet, false),
-        (down(name), counted(MOST_AMOUNT - 1), false),
+        (CountdownCall::Down, counted(0), false),
+        (set(MOST_AMOUNT), Reply::Set, false),
+        (set(1), Reply::AlreadySet, false),
+        (CountdownCall::Down, counted(MOST_AMOUNT - 1), false),
     ];
-    all_answer(alloc, keys, &calls) && keys.exists(&key(Part::Countdown, name))
+    all_answer(alloc, keys, name, &calls) && keys.exists(&key(Part::Countdown, name))
 }
 
 #[test]

@@ -7,9 +7,6 @@ use Rattle.lr_names.specs.declared.part.Part.{Part}
 use Rattle.lr_names.specs.declared.post.Post.{Post}
 use Rattle.lr_keys.specs.KeySpace.{ChangesOnly, KeyEntry, Keys, StaysSame, entry_at, live_entries}
 use Rattle.lr_keys.proofs.FrameLaws.{others_are_live}
-use Rattle.lr_objects.specs.Op.{IsCall, name_of}
-use Rattle.lr_objects.specs.declared.op.Op.{Op}
-use Rattle.lr_objects.specs.declared.op.Op.TheVariants.{LockTry}
 use Rattle.lr_objects.specs.declared.reply.Reply.{Reply}
 use Rattle.lr_model.specs.Answer.{Objects, answer_with}
 use Rattle.lr_model.specs.Outcome.{Outcome}
@@ -18,11 +15,6 @@ use Rattle.lr_counter.specs.Numbers.{IsNumberAt, NumbersStand, number_entry_of}
 use Rattle.lr_counter.specs.Run.{IsNumberRun}
 use Rattle.lr_counter.specs.Step.{IsNumberStep}
 use Rattle.lr_counter.proofs.NumbersLaws.{number_at, numbers_stand_with, other_names_are_live}
-
--- a call names its object
-pub name_of-call : (op : Op) → IsCall op → IsName (name_of op)
-name_of-call (LockTry name owner lease) call = call.0
-name_of-call _ call = call.0
 
 -- A step on the key of a name: the memory was taken, then the moment came, then the key changed.
 module _ (old roomy middle new : Keys) (asked : ℕ) (stays : StaysSame old roomy)

@@ -12,7 +12,7 @@ use Rattle.lr_keys.proofs.FrameLaws.{OthersAreLive-live, list_any-head, list_any
 use Rattle.lr_keys.proofs.TableLaws.{bytes_eq-other}
 use Rattle.lr_objects.specs.declared.reply.Reply.{Reply}
 use Rattle.lr_objects.specs.declared.reply.Reply.TheVariants.{BadLease}
-use Rattle.lr_model.specs.Answer.{Answered, Objects, on_fenced_lock}
+use Rattle.lr_model.specs.Answer.{Answered, Objects}
 use Rattle.lr_model.specs.declared.hold.Hold.{Hold}
 use Rattle.lr_model.specs.Fenced.{FencedLock, with_token}
 use Rattle.lr_model.specs.Moment.{is_lease}
@@ -22,7 +22,7 @@ use Rattle.lr_counter.proofs.NumbersLaws.{numbers_stand_with}
 use Rattle.lr_hold.specs.Holds.{HoldsStand, hold_entry}
 use Rattle.lr_hold.specs.Step.{IsHeld, IsHoldStep}
 use Rattle.lr_hold.proofs.HoldsLaws.{holds_stand_with, live_hold-live}
-use Rattle.lr_fenced.specs.Run.{IsRun}
+use Rattle.lr_fenced.specs.Run.{IsRun, on_fenced_lock}
 use Rattle.lr_fenced.specs.Stands.{FencedLocksStand, holds_of}
 use Rattle.lr_fenced.specs.Step.{ChangesOnlyTwo, IsLockAt, IsLockStep, IsTokenAt, live_lock}
 use Rattle.lr_fenced.proofs.LockLaws.{counter_stays, lock_at, put-own, side_of_put}

@@ -1,46 +1,49 @@
 //! The call of a function of a fenced lock.
 ghost use Rattle.std.specs.Prelude.{◌≡◌, ◌≤◌, Option, None, Some, max, false, if◌then◌else◌, IsOk, IfOk, OnOk, OnErr};
 ghost use Rattle.lr_names.specs.Key.{key_text, keys_of};
+ghost use Rattle.lr_names.specs.Name.{IsName};
 ghost use Rattle.lr_keys.specs.KeySpace.{OthersAreLive, StaysSame, entry_at, live_entry, plan_at};
 ghost use Rattle.lr_limits.specs.Limits.{last_moment};
 ghost use Rattle.lr_model.specs.Answer.{Objects, answer, reply_of, objects_after, post_of};
 ghost use Rattle.lr_model.specs.Fenced.{fenced_post};
-ghost use Rattle.lr_objects.specs.Op.{IsCall, kind_of, name_of};
 ghost use Rattle.lr_hold.specs.Step.{is_freed};
-ghost use Rattle.lr_fenced.specs.Run.{IsRun, makes_key};
+ghost use Rattle.lr_fenced.specs.Run.{IsRun, fenced_op, makes_key};
 ghost use Rattle.lr_fenced.specs.Stands.{FencedLocksStand};
 
 use crate::functions::{fenced_renew, fenced_token, fenced_try, fenced_unlock};
 use lr_keys::KeySpace;
 use lr_names::{Channel, Kind, Name, Part, Post};
-use lr_objects::{Op, Reply};
+use lr_objects::{FencedCall, Reply};
 use std::alloc::{AllocError, Global};
 
 // The reply of a function, with its change of the keys.
-fn answer(alloc: Global, keys: &mut KeySpace, moment: u64, op: &Op) -> Result<Reply, AllocError>
-    requires call { IsCall op.now }
-    requires kind { kind_of op.now ≡ Kind.Fenced }
+fn answer(
+    alloc: Global,
+    keys: &mut KeySpace,
+    moment: u64,
+    name: &Name,
+    call: &FencedCall,
+) -> Result<Reply, AllocError>
+    requires name { IsName name.now }
     requires early { moment ≤ last_moment }
     ensures run { let m = max keys.old.moment moment in IfOk result (λ reply.
-        IsRun keys.old keys.new m (name_of op.now) reply (λ objects. answer objects m op.now)) }
+        IsRun keys.old keys.new m name.now reply
+        (λ objects. answer objects m (fenced_op name.now call.now))) }
     ensures succeeds { let m = max keys.old.moment moment in
-        let hash = live_entry m (entry_at keys.old (key_text Part.Fenced (name_of op.now))) in
-        let counter = entry_at keys.old (key_text Part.Token (name_of op.now)) in
-        makes_key op.now hash counter ≡ false → IsOk result }
+        let hash = live_entry m (entry_at keys.old (key_text Part.Fenced name.now)) in
+        let counter = entry_at keys.old (key_text Part.Token name.now) in
+        makes_key call.now hash counter ≡ false → IsOk result }
     ensures err { OnErr result (StaysSame keys.old keys.new) }
 {
-    match op {
-        Op::FencedTry { name, owner, lease } => {
-            fenced_try(alloc, keys, moment, name, owner, *lease)
-        }
-        Op::FencedUnlock { name, owner, rest } => {
+    match call {
+        FencedCall::Try { owner, lease } => { fenced_try(alloc, keys, moment, name, owner, *lease) }
+        FencedCall::Unlock { owner, rest } => {
             Ok(fenced_unlock(alloc, keys, moment, name, owner, *rest))
         }
-        Op::FencedRenew { name, owner, lease } => {
+        FencedCall::Renew { owner, lease } => {
             Ok(fenced_renew(keys, moment, name, owner, *lease))
         }
-        Op::FencedToken { name } => Ok(fenced_token(keys, moment, name)),
-        _ => unreachable!(),
+        FencedCall::Token => Ok(fenced_token(keys, moment, name)),
     }
 }
 
@@ -69,29 +72,32 @@ pub fn run(
     alloc: Global,
     keys: &mut KeySpace,
     moment: u64,
-    op: &Op,
+    name: &Name,
+    call: &FencedCall,
 ) -> Result<(Reply, Option<Post>), AllocError>
-    requires kind { kind_of op.now ≡ Kind.Fenced }
     requires early { moment ≤ last_moment }
     ensures reply { let m = max keys.old.moment moment in IfOk result (λ r.
-        (objects : Objects) → FencedLocksStand keys.old objects → r.0 ≡ reply_of objects m op.now) }
+        (objects : Objects) → FencedLocksStand keys.old objects
+        → r.0 ≡ reply_of objects m (fenced_op name.now call.now)) }
     ensures post { let m = max keys.old.moment moment in IfOk result (λ r.
-        (objects : Objects) → FencedLocksStand keys.old objects → r.1 ≡ post_of objects m op.now) }
+        (objects : Objects) → FencedLocksStand keys.old objects
+        → r.1 ≡ post_of objects m (fenced_op name.now call.now)) }
     ensures stands { let m = max keys.old.moment moment in
         OnOk result ((objects : Objects) → FencedLocksStand keys.old objects
-        → FencedLocksStand keys.new (objects_after objects m op.now)) }
+        → FencedLocksStand keys.new (objects_after objects m (fenced_op name.now call.now))) }
     ensures frame { OnOk result
-        (OthersAreLive (keys_of Kind.Fenced (name_of op.now)) keys.old keys.new) }
+        (OthersAreLive (keys_of Kind.Fenced name.now) keys.old keys.new) }
     ensures moment { OnOk result (keys.new.moment ≡ max keys.old.moment moment) }
     ensures settled { plan_at keys.new ≡ (λ _. None) }
     ensures succeeds { let m = max keys.old.moment moment in
-        let hash = live_entry m (entry_at keys.old (key_text Part.Fenced (name_of op.now))) in
-        let counter = entry_at keys.old (key_text Part.Token (name_of op.now)) in
-        makes_key op.now hash counter ≡ false → IsOk result }
+        let hash = live_entry m (entry_at keys.old (key_text Part.Fenced name.now)) in
+        let counter = entry_at keys.old (key_text Part.Token name.now) in
+        makes_key call.now hash counter ≡ false → IsOk result }
     ensures err { OnErr result (StaysSame keys.old keys.new) }
 {
-    let name = op.name();
-    let answered = answer(alloc, keys, moment, op);
+    // What the type of the name says of it.
+    let _text = name.as_slice();
+    let answered = answer(alloc, keys, moment, name, call);
     keys.settle();
     let reply = answered?;
     let post = post_after(name, &reply);

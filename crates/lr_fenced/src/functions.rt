@@ -5,10 +5,9 @@ ghost use Rattle.lr_names.specs.Name.{IsName};
 ghost use Rattle.lr_names.specs.Owner.{owner_text};
 ghost use Rattle.lr_keys.specs.KeySpace.{IsPrepared, StaysSame, entry_at, live_entry};
 ghost use Rattle.lr_limits.specs.Limits.{last_moment};
-ghost use Rattle.lr_model.specs.Answer.{on_fenced_lock};
 ghost use Rattle.lr_model.specs.Fenced.{fenced_try, fenced_unlock, fenced_renew, fenced_token};
 ghost use Rattle.lr_model.specs.Moment.{is_lease};
-ghost use Rattle.lr_fenced.specs.Run.{IsRun};
+ghost use Rattle.lr_fenced.specs.Run.{IsRun, on_fenced_lock};
 
 use crate::take::take_lock;
 use crate::token::last_token;

@@ -2,18 +2,16 @@
 use Rattle.std.proofs.Common.{◌≡◌, ◌≤◌, ℕ, Bool, cond, List, [], ◌∷◌, Option, Some, None, true, false, if◌then◌else◌, refl, ap, sym, subst, ◌∙◌, arith}
 use Rattle.lr_names.specs.Key.{key_text}
 use Rattle.lr_names.specs.Name.{IsName}
-use Rattle.lr_names.specs.declared.kind.Kind.TheVariants.{Mutex}
 use Rattle.lr_names.specs.declared.part.Part.TheVariants.{Lock}
 use Rattle.lr_keys.specs.KeySpace.{ChangesOnly, KeyEntry, Keys, entry_at, live_entries}
 use Rattle.lr_keys.proofs.FrameLaws.{OthersAreLive-live, others_are_live}
 use Rattle.lr_limits.specs.Limits.{last_moment}
-use Rattle.lr_objects.specs.Op.{kind_of, name_of}
-use Rattle.lr_objects.specs.declared.op.Op.{Op}
-use Rattle.lr_objects.specs.declared.op.Op.TheVariants.{LockTry, LockUnlock, LockRenew, LockForce}
+use Rattle.lr_objects.specs.declared.lock.LockCall.{LockCall}
+use Rattle.lr_objects.specs.declared.lock.LockCall.TheVariants.{Try, Unlock, Renew, Force}
 use Rattle.lr_objects.specs.declared.reply.Reply.{Reply}
 use Rattle.lr_objects.specs.declared.reply.Reply.TheVariants.{BadLease}
 use Rattle.lr_model.specs.declared.hold.Hold.{Hold}
-use Rattle.lr_model.specs.Answer.{Answered, Objects, on_mutex, reply_of, post_of}
+use Rattle.lr_model.specs.Answer.{Answered, Objects, reply_of, post_of}
 use Rattle.lr_model.specs.Hold.{live_hold, take_hold, give_back_hold, renew_hold}
 use Rattle.lr_model.specs.Moment.{is_lease}
 use Rattle.lr_model.specs.Mutex.{lock_post}
@@ -21,7 +19,7 @@ use Rattle.lr_model.specs.Outcome.{Outcome, silent_outcome}
 use Rattle.lr_hold.specs.Step.{IsHeld, IsHoldStep, is_freed}
 use Rattle.lr_hold.proofs.HoldsLaws.{held_at, holds_stand_after, holds_stand_still}
 use Rattle.lr_hold.proofs.PostLaws.{sends-take_hold, sends-give_back_hold, sends-renew_hold, sends-end_hold, sends-with_lease}
-use Rattle.lr_mutex.specs.Run.{IsRun}
+use Rattle.lr_mutex.specs.Run.{IsRun, on_mutex, lock_op}
 use Rattle.lr_mutex.specs.Stands.{MutexesStand}
 
 -- what a step makes of the hold that is live at its moment
@@ -113,36 +111,34 @@ module _ (old : Keys) (moment : ℕ) (later : old.moment ≤ moment) (early : mo
       left = entries ∙ ap (λ m. live_entries m (entry_at old)) (sym now)
 
 -- a call on a lock sends its message exactly where the lock has come free
-post-freed : (objects : Objects) (moment : ℕ) (op : Op) → kind_of op ≡ Mutex
-    → post_of objects moment op
-    ≡ (if is_freed (reply_of objects moment op) then Some (lock_post (name_of op)) else None)
-post-freed objects moment (LockTry name owner lease) kind =
+post-freed : (objects : Objects) (moment : ℕ) (name : List ℕ) (call : LockCall)
+    → post_of objects moment (lock_op name call)
+    ≡ (if is_freed (reply_of objects moment (lock_op name call)) then Some (lock_post name) else None)
+post-freed objects moment name (Try owner lease) =
     let lock = objects.mutexes name in
     let post = Some (lock_post name) in
     let live = live_hold moment lock in
     sends-with_lease post lease lock (take_hold moment owner lease live)
     (sends-take_hold post moment owner lease live)
-post-freed objects moment (LockUnlock name owner rest) kind =
+post-freed objects moment name (Unlock owner rest) =
     let lock = objects.mutexes name in
     let post = Some (lock_post name) in
     let live = live_hold moment lock in
     sends-with_lease post rest lock (give_back_hold post moment owner rest live)
     (sends-give_back_hold post moment owner rest live)
-post-freed objects moment (LockRenew name owner lease) kind =
+post-freed objects moment name (Renew owner lease) =
     let lock = objects.mutexes name in
     let post = Some (lock_post name) in
     let live = live_hold moment lock in
     sends-with_lease post lease lock (renew_hold moment owner lease live)
     (sends-renew_hold post moment owner lease live)
-post-freed objects moment (LockForce name) kind =
+post-freed objects moment name Force =
     sends-end_hold (Some (lock_post name)) (live_hold moment (objects.mutexes name))
-post-freed objects moment _ kind = absurd (cc kind)
 
--- the message by the reply and the name
-pub post_of-reply : (objects : Objects) (moment : ℕ) (op : Op) → kind_of op ≡ Mutex
-    → (reply : Reply) → reply ≡ reply_of objects moment op → (name : List ℕ) → name ≡ name_of op
-    → (if is_freed reply then Some (lock_post name) else None) ≡ post_of objects moment op
-post_of-reply objects moment op kind reply answer name named =
+-- the message by the reply
+pub post_of-reply : (objects : Objects) (moment : ℕ) (name : List ℕ) (call : LockCall) (reply : Reply)
+    → reply ≡ reply_of objects moment (lock_op name call)
+    → (if is_freed reply then Some (lock_post name) else None) ≡ post_of objects moment (lock_op name call)
+post_of-reply objects moment name call reply answer =
     ap (λ r. if is_freed r then Some (lock_post name) else None) answer
-    ∙ ap (λ n. if is_freed (reply_of objects moment op) then Some (lock_post n) else None) named
-    ∙ sym (post-freed objects moment op kind)
+    ∙ sym (post-freed objects moment name call)

@@ -4,10 +4,9 @@ ghost use Rattle.lr_names.specs.Key.{key_text};
 ghost use Rattle.lr_names.specs.Name.{IsName};
 ghost use Rattle.lr_keys.specs.KeySpace.{entry_at, live_entry};
 ghost use Rattle.lr_limits.specs.Limits.{last_moment};
-ghost use Rattle.lr_model.specs.Answer.{on_mutex};
 ghost use Rattle.lr_model.specs.Moment.{is_lease};
 ghost use Rattle.lr_model.specs.Mutex.{lock_try, lock_unlock, lock_renew, lock_force};
-ghost use Rattle.lr_mutex.specs.Run.{IsRun};
+ghost use Rattle.lr_mutex.specs.Run.{IsRun, on_mutex};
 
 use lr_hold::{end, give_back, is_lease, make_room, renew, take};
 use lr_keys::KeySpace;

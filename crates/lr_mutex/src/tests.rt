@@ -1,8 +1,8 @@
 use crate::run;
 use lr_keys::KeySpace;
 use lr_limits::{LAST_MOMENT, LONGEST_LEASE, NEVER};
-use lr_names::{Kind, Name, Owner, Part, key};
-use lr_objects::{Op, Remaining, Reply};
+use lr_names::{Name, Owner, Part, key};
+use lr_objects::{LockCall, Remaining, Reply};
 use lr_text::Brief;
 use std::alloc::Global;
 use std::test::Fail;
@@ -11,32 +11,25 @@ const ONE: &[u8] = b"11111111-2222-3333-4444-555555555555:1";
 
 const TWO: &[u8] = b"11111111-2222-3333-4444-555555555555:2";
 
-fn take(name: &Name, owner: &Owner, lease: u64) -> Op {
-    Op::LockTry {
-        name: *name,
+fn take(owner: &Owner, lease: u64) -> LockCall {
+    LockCall::Try {
         owner: *owner,
         lease,
     }
 }
 
-fn give_back(name: &Name, owner: &Owner, rest: u64) -> Op {
-    Op::LockUnlock {
-        name: *name,
+fn give_back(owner: &Owner, rest: u64) -> LockCall {
+    LockCall::Unlock {
         owner: *owner,
         rest,
     }
 }
 
-fn renew(name: &Name, owner: &Owner, lease: u64) -> Op {
-    Op::LockRenew {
-        name: *name,
+fn renew(owner: &Owner, lease: u64) -> LockCall {
+    LockCall::Renew {
         owner: *owner,
         lease,
     }
-}
-
-fn force(name: &Name) -> Op {
-    Op::LockForce { name: *name }
 }
 
 fn busy(millis: u64) -> Reply {
@@ -44,20 +37,29 @@ fn busy(millis: u64) -> Reply {
 }
 
 // Whether a call at the moment is answered so, and sends a message exactly where the lock comes free.
-fn answers(alloc: Global, keys: &mut KeySpace, moment: u64, op: &Op, wanted: &Reply) -> bool {
-    if !matches!(op.kind(), Kind::Mutex) {
-        return false;
-    }
-    match run(alloc, keys, moment.min(LAST_MOMENT), op) {
+fn answers(
+    alloc: Global,
+    keys: &mut KeySpace,
+    moment: u64,
+    name: &Name,
+    call: &LockCall,
+    wanted: &Reply,
+) -> bool {
+    match run(alloc, keys, moment.min(LAST_MOMENT), name, call) {
         Ok((reply, post)) => reply == *wanted && post.is_some() == (reply == Reply::Freed),
         Err(_) => false,
     }
 }
 
 // Whether calls are answered so, one after another.
-fn all_answer(alloc: Global, keys: &mut KeySpace, calls: &[(u64, Op, Reply)]) -> bool {
-    for (moment, op, wanted) in calls {
-        if !answers(alloc, keys, *moment, op, wanted) {
+fn all_answer(
+    alloc: Global,
+    keys: &mut KeySpace,
+    name: &Name,
+    calls: &[(u64, LockCall, Reply)],
+) -> bool {
+    for (moment, call, wanted) in calls {
+        if !answers(alloc, keys, *moment, name, call, wanted) {
             return false;
         }
     }
@@ -67,40 +69,40 @@ fn all_answer(alloc: Global, keys: &mut KeySpace, calls: &[(u64, Op, Reply)]) ->
 // Whether an owner takes a lock twice, and keeps it with the rest lease.
 fn is_taken(alloc: Global, keys: &mut KeySpace, name: &Name, one: &Owner, two: &Owner) -> bool {
     let calls = [
-        (1_000, take(name, one, 500), Reply::Granted),
-        (1_000, take(name, one, 600), Reply::Granted),
-        (1_100, take(name, two, 500), busy(500)),
-        (1_200, give_back(name, one, 300), Reply::Kept),
-        (1_210, take(name, two, 500), busy(290)),
-        (1_210, give_back(name, two, 300), Reply::NotHeld),
+        (1_000, take(one, 500), Reply::Granted),
+        (1_000, take(one, 600), Reply::Granted),
+        (1_100, take(two, 500), busy(500)),
+        (1_200, give_back(one, 300), Reply::Kept),
+        (1_210, take(two, 500), busy(290)),
+        (1_210, give_back(two, 300), Reply::NotHeld),
     ];
-    all_answer(alloc, keys, &calls)
+    all_answer(alloc, keys, name, &calls)
 }
 
 // Whether a lease is renewed, and ends at its deadline.
 fn is_renewed(alloc: Global, keys: &mut KeySpace, name: &Name, one: &Owner, two: &Owner) -> bool {
     let calls = [
-        (1_300, renew(name, two, 700), Reply::Lost),
-        (1_300, renew(name, one, 0), Reply::BadLease),
-        (1_300, renew(name, one, 700), Reply::Renewed),
-        (1_999, take(name, two, 1), busy(1)),
-        (2_000, give_back(name, one, 300), Reply::NotHeld),
-        (2_000, renew(name, one, 300), Reply::Lost),
+        (1_300, renew(two, 700), Reply::Lost),
+        (1_300, renew(one, 0), Reply::BadLease),
+        (1_300, renew(one, 700), Reply::Renewed),
+        (1_999, take(two, 1), busy(1)),
+        (2_000, give_back(one, 300), Reply::NotHeld),
+        (2_000, renew(one, 300), Reply::Lost),
     ];
-    all_answer(alloc, keys, &calls)
+    all_answer(alloc, keys, name, &calls)
 }
 
 // Whether a lock comes free by its owner, and by force at a moment that has passed.
 fn comes_free(alloc: Global, keys: &mut KeySpace, name: &Name, one: &Owner, two: &Owner) -> bool {
     let calls = [
-        (2_000, take(name, two, LONGEST_LEASE + 1), Reply::BadLease),
-        (2_000, take(name, two, LONGEST_LEASE), Reply::Granted),
-        (2_010, give_back(name, two, 1), Reply::Freed),
-        (2_010, force(name), Reply::NotHeld),
-        (2_010, take(name, one, 100), Reply::Granted),
-        (5, force(name), Reply::Freed),
+        (2_000, take(two, LONGEST_LEASE + 1), Reply::BadLease),
+        (2_000, take(two, LONGEST_LEASE), Reply::Granted),
+        (2_010, give_back(two, 1), Reply::Freed),
+        (2_010, LockCall::Force, Reply::NotHeld),
+        (2_010, take(one, 100), Reply::Granted),
+        (5, LockCall::Force, Reply::Freed),
     ];
-    all_answer(alloc, keys, &calls)
+    all_answer(alloc, keys, name, &calls)
 }
 
 #[test]
@@ -122,8 +124,8 @@ fn is_held(alloc: Global, keys: &mut KeySpace, lock: &Brief, owner: &Owner, time
 // Whether a lock that is held 999,999 times is held once more, and no oftener.
 fn is_too_deep(alloc: Global, keys: &mut KeySpace, lock: &Brief, name: &Name, one: &Owner) -> bool {
     is_held(alloc, keys, lock, one, 999_999)
-        && answers(alloc, keys, 10, &take(name, one, 70), &Reply::Granted)
-        && answers(alloc, keys, 20, &take(name, one, 70), &Reply::TooDeep)
+        && answers(alloc, keys, 10, name, &take(one, 70), &Reply::Granted)
+        && answers(alloc, keys, 20, name, &take(one, 70), &Reply::TooDeep)
         && keys.pttl(lock) == 60
         && keys.hget(lock, &one.brief()) == Ok(Some(1_000_000))
 }
@@ -140,12 +142,12 @@ fn a_million_holds(rt: HostRuntime) -> Result<(), Fail> {
 // Whether a hold without an expiry lasts for ever, until its owner gives one of a million back.
 fn lasts(alloc: Global, keys: &mut KeySpace, name: &Name, one: &Owner, two: &Owner) -> bool {
     let calls = [
-        (20, take(name, one, 70), Reply::TooDeep),
-        (20, take(name, two, 70), busy(NEVER - 20)),
-        (30, give_back(name, one, 50), Reply::Kept),
-        (30, take(name, two, 70), busy(50)),
+        (20, take(one, 70), Reply::TooDeep),
+        (20, take(two, 70), busy(NEVER - 20)),
+        (30, give_back(one, 50), Reply::Kept),
+        (30, take(two, 70), busy(50)),
     ];
-    all_answer(alloc, keys, &calls)
+    all_answer(alloc, keys, name, &calls)
 }
 
 #[test]

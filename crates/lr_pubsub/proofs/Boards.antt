@@ -17,7 +17,7 @@ use Rattle.lr_pubsub.specs.Connection.{is_shut, is_usable}
 use Rattle.lr_pubsub.specs.ConnectionSet.{has_number}
 use Rattle.lr_pubsub.specs.ConnectionSlot.{ConnectionSlotValue, HasSpare, closed_slot, connection_at, connections_of, slot_at}
 use Rattle.lr_pubsub.specs.Subscribers.{listeners}
-use Rattle.lr_pubsub.proofs.SameChannel.{same_is, same_self}
+use Rattle.lr_model.proofs.SameChannel.{same_is, same_self}
 use Rattle.lr_pubsub.proofs.Slots.{board-set, board-shown, either_number, put-same, shown, slot_at-read, slot_at-set}
 
 -- what a board shows is what its slots have

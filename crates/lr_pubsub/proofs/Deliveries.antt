@@ -7,7 +7,7 @@ use Rattle.lr_model.specs.Board.{numbers_below}
 use Rattle.lr_model.specs.Table.{put}
 use Rattle.lr_pubsub.specs.ConnectionSlot.{ConnectionSlotValue, connection_at, slot_at}
 use Rattle.lr_pubsub.specs.Delivery.{board_with_message, with_message}
-use Rattle.lr_pubsub.proofs.Numbers.{IsPopped, below_popped}
+use Rattle.lr_model.proofs.Numbers.{IsPopped, below_popped}
 use Rattle.lr_pubsub.proofs.Slots.{either_number, slot_at-read, slot_at-set}
 
 -- of all that are to be told, the rest remain

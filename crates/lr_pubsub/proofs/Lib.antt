@@ -1,6 +1,4 @@
-pub mod SameChannel
 pub mod Listeners
-pub mod Numbers
 pub mod ConnectionSets
 pub mod Slots
 pub mod Deliveries

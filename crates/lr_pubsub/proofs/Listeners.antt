@@ -7,7 +7,7 @@ use Rattle.lr_model.specs.Board.{same_channel}
 use Rattle.lr_pubsub.specs.declared.connection_set.ConnectionSet.{ConnectionSet}
 use Rattle.lr_pubsub.specs.ConnectionSet.{has_number}
 use Rattle.lr_pubsub.specs.Subscribers.{listeners}
-use Rattle.lr_pubsub.proofs.SameChannel.{derived_same, same_is, same_symm}
+use Rattle.lr_model.proofs.SameChannel.{derived_same, same_is, same_symm}
 
 -- the numbers in a set that a look-up found
 abbrev pub found : Option ConnectionSet → ℕ → Bool

@@ -12,7 +12,7 @@ use Rattle.lr_model.proofs.Tables.{one_table}
 use Rattle.lr_pubsub.specs.BoardParts.{BoardParts, IsBoard}
 use Rattle.lr_pubsub.specs.ConnectionSlot.{ConnectionSlotValue, closed_slot, connection_at}
 use Rattle.lr_pubsub.specs.Delivery.{board_after_drops, board_with_message, is_listed, with_message}
-use Rattle.lr_pubsub.proofs.Numbers.{below_all, below_and, below_has, below_lacks}
+use Rattle.lr_model.proofs.Numbers.{below_all, below_and, below_has, below_lacks}
 use Rattle.lr_pubsub.proofs.Slots.{connection-shown, shown}
 
 module _ {parts : BoardParts} (board : IsBoard parts) (post : Post) (takes_part : ℕ → Bool)

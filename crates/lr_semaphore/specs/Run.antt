@@ -1,20 +1,18 @@
 -- What a call on a semaphore does to the keys.
-use Rattle.std.specs.Prelude.{ℕ, Bool, false, is_none, Option}
+use Rattle.std.specs.Prelude.{List, ℕ, Bool, false, is_none, Option}
 use Rattle.lr_keys.specs.KeySpace.{KeyEntry}
+use Rattle.lr_objects.specs.Op.{call_on}
+use Rattle.lr_objects.specs.declared.kinds.Call.TheVariants.{Semaphore}
 use Rattle.lr_objects.specs.declared.op.Op.{Op}
-use Rattle.lr_objects.specs.declared.op.Op.TheVariants.{SemSet, SemTry, SemRelease}
-use Rattle.lr_model.specs.Outcome.{Outcome}
-use Rattle.lr_model.specs.Semaphore.{sem_set, sem_try, sem_release, sem_count}
+use Rattle.lr_objects.specs.declared.semaphore.SemaphoreCall.{SemaphoreCall}
+use Rattle.lr_objects.specs.declared.semaphore.SemaphoreCall.TheVariants as calls
 
--- what the function of a call makes of its semaphore
-abbrev pub outcome_of : Op → Option ℕ → Outcome (Option ℕ)
-outcome_of (SemSet name number) semaphore = sem_set name number semaphore
-outcome_of (SemTry name number) semaphore = sem_try number semaphore
-outcome_of (SemRelease name number) semaphore = sem_release name number semaphore
-outcome_of _ semaphore = sem_count semaphore
+-- a call on the semaphore of this name
+abbrev pub semaphore_op : List ℕ → SemaphoreCall → Op
+semaphore_op name call = call_on name (Semaphore call)
 
 -- whether a call makes the key of its semaphore where this is there: only that takes memory
-abbrev pub makes_key : Op → Option KeyEntry → Bool
-makes_key (SemSet name number) entry = is_none entry
-makes_key (SemRelease name number) entry = is_none entry
+abbrev pub makes_key : SemaphoreCall → Option KeyEntry → Bool
+makes_key (calls.Set number) entry = is_none entry
+makes_key (calls.Release number) entry = is_none entry
 makes_key _ entry = false

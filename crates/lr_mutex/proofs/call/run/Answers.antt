@@ -7,8 +7,8 @@ use Rattle.lr_mutex.proofs.call.run.Goals as goal
 pub returns-clause-post : goal.returns-clause-post
 returns-clause-post c = λ objects stand.
     c.post_after-post.ensures
-    ∙ post_of-reply objects _ c.args.op.now c.requires.kind c.in_ok-reply.reply
-    (c.in_ok-reply.ensures.run.answer objects stand) c.name-name.result.now c.name-name.ensures.value
+    ∙ post_of-reply objects _ c.args.name.now c.args.call.now c.in_ok-reply.reply
+    (c.in_ok-reply.ensures.run.answer objects stand)
 
 pub returns-clause-stands : goal.returns-clause-stands
 returns-clause-stands c = λ objects stand.

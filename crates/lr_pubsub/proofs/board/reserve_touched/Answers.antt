@@ -1,7 +1,7 @@
 use Rattle.std.proofs.Common.{◌<◌, ap, sym, ◌∙◌, arith, length}
 use Rattle.std.proofs.lemmas.List.{length-set}
 use Rattle.lr_pubsub.specs.ConnectionSet.{has_number}
-use Rattle.lr_pubsub.proofs.Numbers.{below_least, below_popped}
+use Rattle.lr_model.proofs.Numbers.{below_least, below_popped}
 use Rattle.lr_pubsub.proofs.Slots.{connections_of-like}
 use Rattle.lr_pubsub.proofs.SparePlaces.{spare-failed, spare-taken}
 use Rattle.lr_pubsub.proofs.board.reserve_touched.Goals as goal

@@ -1,5 +1,5 @@
 use Rattle.std.proofs.Common.{◌∙◌}
-use Rattle.lr_pubsub.proofs.SameChannel.{derived_same}
+use Rattle.lr_model.proofs.SameChannel.{derived_same}
 use Rattle.lr_pubsub.proofs.channels.is_same_channel.Goals as goal
 
 pub returns : goal.returns

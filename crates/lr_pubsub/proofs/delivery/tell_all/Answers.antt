@@ -5,7 +5,7 @@ use Rattle.lr_pubsub.specs.Connection.{is_usable}
 use Rattle.lr_pubsub.specs.ConnectionSet.{has_number}
 use Rattle.lr_pubsub.specs.ConnectionSlot.{HasSpare, connection_at}
 use Rattle.lr_pubsub.specs.Delivery.{with_message}
-use Rattle.lr_pubsub.proofs.Numbers.{below_few, below_first_none, below_popped}
+use Rattle.lr_model.proofs.Numbers.{below_few, below_first_none, below_popped}
 use Rattle.lr_pubsub.proofs.Deliveries.{IsNext-read, IsTold-more, filter-first_fails, filter-first_passes, length-filter-le}
 use Rattle.lr_pubsub.proofs.delivery.tell_all.Goals as goal
 

@@ -4,7 +4,7 @@ use Rattle.lr_model.specs.Board.{is_open, numbers_below}
 use Rattle.lr_pubsub.specs.BoardValue.{board_of}
 use Rattle.lr_pubsub.specs.ConnectionSlot.{connection_at}
 use Rattle.lr_pubsub.proofs.Boards.{stands}
-use Rattle.lr_pubsub.proofs.Numbers.{below_same}
+use Rattle.lr_model.proofs.Numbers.{below_same}
 use Rattle.lr_pubsub.proofs.board.Board.next_free.Goals as goal
 
 pub returns : goal.returns

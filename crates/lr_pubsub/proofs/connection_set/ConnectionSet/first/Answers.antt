@@ -3,7 +3,7 @@ use Rattle.std.proofs.lemmas.Bool.{cases_lt}
 use Rattle.lr_model.proofs.Tables.{one_table}
 use Rattle.lr_pubsub.specs.ConnectionSet.{has_number}
 use Rattle.lr_pubsub.proofs.ConnectionSets.{has_number-past, has_number-zero, lowest-first, lowest-has, lowest-inside}
-use Rattle.lr_pubsub.proofs.Numbers.{below_next, below_none}
+use Rattle.lr_model.proofs.Numbers.{below_next, below_none}
 use Rattle.lr_pubsub.proofs.connection_set.ConnectionSet.first.Goals as goal
 
 pub returns-then-word-ne0-clause-least : goal.returns-then-word-ne0-clause-least

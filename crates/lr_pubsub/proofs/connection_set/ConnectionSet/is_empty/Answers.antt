@@ -1,7 +1,7 @@
 use Rattle.std.proofs.Common.{◌≡◌, ℕ, Bool, refl, ap, ◌∙◌, true, false, not, Option, Some, None, IsTrue, IfNone, slice_get}
 use Rattle.std.specs.Option.{is_some}
 use Rattle.lr_pubsub.specs.ConnectionSet.{has_number}
-use Rattle.lr_pubsub.proofs.Numbers.{below_none}
+use Rattle.lr_model.proofs.Numbers.{below_none}
 use Rattle.lr_pubsub.proofs.connection_set.ConnectionSet.is_empty.Goals as goal
 
 -- what a search says that found nothing, and that it found nothing

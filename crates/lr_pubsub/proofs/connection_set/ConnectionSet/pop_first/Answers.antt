@@ -1,6 +1,6 @@
 use Rattle.std.proofs.Common.{sym, ◌∙◌}
 use Rattle.lr_pubsub.specs.ConnectionSet.{has_number}
-use Rattle.lr_pubsub.proofs.Numbers.{below_least}
+use Rattle.lr_model.proofs.Numbers.{below_least}
 use Rattle.lr_pubsub.proofs.connection_set.ConnectionSet.pop_first.Goals as goal
 
 pub remove-requires : goal.remove-requires
