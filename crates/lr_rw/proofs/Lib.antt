@@ -1,0 +1,11 @@
+pub mod MemberLaws
+pub mod ValueLaws
+pub mod DeadlineLaws
+pub mod EndLaws
+pub mod LookLemmas
+pub mod ChangeLemmas
+pub mod StepLemmas
+pub mod RunLemmas
+pub mod PostLemmas
+pub mod StandsLaws
+pub mod CallLemmas

@@ -1,0 +1,4 @@
+pub mod Holds
+pub mod Step
+pub mod Run
+pub mod Stands
