@@ -1,0 +1,11 @@
+//! The latches of a client: what it keeps of the channels on which its threads wait. All threads
+//! that wait on a channel share one subscription and one entry.
+#![tactic(auto)]
+
+mod entry;
+mod latches;
+mod orders;
+#[cfg(test)]
+mod tests;
+
+pub use latches::Latches;

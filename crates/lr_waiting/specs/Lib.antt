@@ -1,0 +1,6 @@
+pub mod WaiterValue
+pub mod Latch
+pub mod Session
+pub mod Client
+pub mod Stand
+pub mod Peak

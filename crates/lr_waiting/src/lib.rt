@@ -1,0 +1,14 @@
+//! How the threads of a client wait for objects: the definitions. They share one latch and one
+//! subscription for each channel, and something stands for each of them that sleeps. The types are
+//! plain data; the rules stand in `specs/`.
+#![tactic(auto)]
+
+mod latch;
+mod stand;
+mod waiter;
+mod watch;
+
+pub use latch::{Checked, LatchEntry, Order, Woken};
+pub use stand::{Stand, Standing};
+pub use waiter::{Ask, Asking, Phase, Refusal, Stage, Waiter};
+pub use watch::{Watch, WatchKey, WatchKind};
