@@ -1,17 +1,14 @@
 -- What stays of countdown latches where a function of another kind runs.
-use Rattle.std.proofs.Common.{◌≡◌, ℕ, List, [], false, refl, sym, subst}
-use Rattle.std.proofs.lemmas.Bool.{true≢false}
+use Rattle.std.proofs.Common.{◌≡◌, ℕ, List, [], sym, subst}
 use Rattle.lr_names.specs.Key.{key_text}
-use Rattle.lr_names.specs.declared.kind.Kind.{Kind}
 use Rattle.lr_names.specs.declared.kind.Kind.TheVariants.{Countdown}
 use Rattle.lr_names.specs.declared.part.Part.TheVariants as parts
 use Rattle.lr_keys.specs.KeySpace.{Keys}
-use Rattle.lr_model.specs.Answer.{Objects, with_countdown}
-use Rattle.lr_model.specs.Board.{same_kind}
+use Rattle.lr_model.specs.Answer.{Objects}
 use Rattle.lr_countdown.specs.Stands.{CountdownsStand}
 use Rattle.lr_countdown.proofs.StandsLaws.{countdowns_stand_later}
 use Rattle.lr_server.proofs.KindLaws.{first_among}
-use Rattle.lr_server.proofs.KindsLater.{KindGoesOn, objects_of}
+use Rattle.lr_server.proofs.KindsLater.{KindGoesOn}
 
 -- the keys still stand for the same ones
 pub stay : (old new : Keys) (objects objects2 : Objects) → KindGoesOn Countdown old new
@@ -26,10 +23,3 @@ stay old new objects objects2 goes_on same stands =
     goes_on.live name key named (first_among key [])) in
     subst (λ (countdowns : List ℕ → ℕ). CountdownsStand new (at objects countdowns))
     (sym same) later
-
--- another latch leaves the objects of all other kinds
-pub only : (kind : Kind) (objects : Objects) (name : List ℕ) (count : ℕ)
-    → same_kind kind Countdown ≡ false
-    → objects_of kind (with_countdown objects name count) ≡ objects_of kind objects
-only Countdown objects name count apart = absurd (true≢false apart)
-only _ objects name count apart = refl

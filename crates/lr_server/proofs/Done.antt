@@ -9,8 +9,7 @@ use Rattle.lr_model.specs.declared.entry.Act.TheVariants.{Call}
 use Rattle.lr_model.specs.declared.entry.Entry.{Entry}
 use Rattle.lr_model.specs.Answer.{post_of}
 use Rattle.lr_model.specs.Board.{board_after_post}
-use Rattle.lr_model.specs.History.{State, Replies}
-use Rattle.lr_model.specs.World.{call_entry}
+use Rattle.lr_model.specs.History.{State, Replies, call_entry}
 use Rattle.lr_pubsub.specs.BoardValue.{BoardValue, board_of}
 use Rattle.lr_server.specs.declared.answered.Answered.{Answered}
 use Rattle.lr_server.specs.Server.{told_by, reached_of, dropped_of}

@@ -1,18 +1,15 @@
 -- What stays of fenced locks where a function of another kind runs.
-use Rattle.std.proofs.Common.{◌≡◌, ℕ, List, [], ◌∷◌, false, refl, sym, subst}
-use Rattle.std.proofs.lemmas.Bool.{true≢false}
+use Rattle.std.proofs.Common.{◌≡◌, ℕ, List, [], ◌∷◌, sym, subst}
 use Rattle.lr_names.specs.Key.{key_text}
-use Rattle.lr_names.specs.declared.kind.Kind.{Kind}
 use Rattle.lr_names.specs.declared.kind.Kind.TheVariants.{Fenced}
 use Rattle.lr_names.specs.declared.part.Part.TheVariants as parts
 use Rattle.lr_keys.specs.KeySpace.{Keys}
 use Rattle.lr_model.specs.Fenced.{FencedLock}
-use Rattle.lr_model.specs.Answer.{Objects, with_fenced_lock}
-use Rattle.lr_model.specs.Board.{same_kind}
+use Rattle.lr_model.specs.Answer.{Objects}
 use Rattle.lr_fenced.specs.Stands.{FencedLocksStand}
 use Rattle.lr_fenced.proofs.StandsLaws.{fenced_locks_stand_later}
 use Rattle.lr_server.proofs.KindLaws.{first_among, second_among}
-use Rattle.lr_server.proofs.KindsLater.{KindGoesOn, objects_of}
+use Rattle.lr_server.proofs.KindsLater.{KindGoesOn}
 
 -- the keys still stand for the same ones
 pub stay : (old new : Keys) (objects objects2 : Objects) → KindGoesOn Fenced old new
@@ -31,10 +28,3 @@ stay old new objects objects2 goes_on same stands =
     subst (λ (locks : List ℕ → FencedLock). FencedLocksStand new (at objects locks)) (sym same)
     later in
     record { held = stand.held; tokens = stand.tokens }
-
--- another lock leaves the objects of all other kinds
-pub only : (kind : Kind) (objects : Objects) (name : List ℕ) (lock : FencedLock)
-    → same_kind kind Fenced ≡ false
-    → objects_of kind (with_fenced_lock objects name lock) ≡ objects_of kind objects
-only Fenced objects name lock apart = absurd (true≢false apart)
-only _ objects name lock apart = refl

@@ -4,6 +4,7 @@ pub mod KindLaws
 pub mod KindsLater
 pub mod MutexesStay
 pub mod FencedLocksStay
+pub mod ReadWriteLocksStay
 pub mod SemaphoresStay
 pub mod CountdownsStay
 pub mod Numbers

@@ -1,18 +1,15 @@
 -- What stays of locks where a function of another kind runs.
-use Rattle.std.proofs.Common.{◌≡◌, ℕ, List, [], Option, false, refl, sym, subst}
-use Rattle.std.proofs.lemmas.Bool.{true≢false}
+use Rattle.std.proofs.Common.{◌≡◌, ℕ, List, [], Option, sym, subst}
 use Rattle.lr_names.specs.Key.{key_text}
-use Rattle.lr_names.specs.declared.kind.Kind.{Kind}
 use Rattle.lr_names.specs.declared.kind.Kind.TheVariants.{Mutex}
 use Rattle.lr_names.specs.declared.part.Part.TheVariants as parts
 use Rattle.lr_keys.specs.KeySpace.{Keys}
 use Rattle.lr_model.specs.declared.hold.Hold.{Hold}
-use Rattle.lr_model.specs.Answer.{Objects, with_mutex}
-use Rattle.lr_model.specs.Board.{same_kind}
+use Rattle.lr_model.specs.Answer.{Objects}
 use Rattle.lr_mutex.specs.Stands.{MutexesStand}
 use Rattle.lr_mutex.proofs.StandsLaws.{mutexes_stand_later}
 use Rattle.lr_server.proofs.KindLaws.{first_among}
-use Rattle.lr_server.proofs.KindsLater.{KindGoesOn, objects_of}
+use Rattle.lr_server.proofs.KindsLater.{KindGoesOn}
 
 -- the keys still stand for the same ones
 pub stay : (old new : Keys) (objects objects2 : Objects) → KindGoesOn Mutex old new
@@ -27,10 +24,3 @@ stay old new objects objects2 goes_on same stands =
     goes_on.live name key named (first_among key [])) in
     subst (λ (mutexes : List ℕ → Option Hold). MutexesStand new (at objects mutexes))
     (sym same) later
-
--- another lock leaves the objects of all other kinds
-pub only : (kind : Kind) (objects : Objects) (name : List ℕ) (lock : Option Hold)
-    → same_kind kind Mutex ≡ false
-    → objects_of kind (with_mutex objects name lock) ≡ objects_of kind objects
-only Mutex objects name lock apart = absurd (true≢false apart)
-only _ objects name lock apart = refl

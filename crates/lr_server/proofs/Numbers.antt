@@ -2,7 +2,7 @@
 use Rattle.std.proofs.Common.{◌≡◌, ℕ, zero, suc, ◌+◌, ◌<◌, Bool, true, false, if◌then◌else◌, [], ◌∷◌, length, refl, ap, ◌∙◌, arith, ◌⊎◌, inl, inr, length-append}
 use Rattle.std.proofs.lemmas.Bool.{cases_eq}
 use Rattle.lr_model.specs.Board.{numbers_below}
-use Rattle.lr_pubsub.proofs.Numbers.{below_same}
+use Rattle.lr_model.proofs.Numbers.{below_same}
 
 abbrev one_if : Bool → ℕ
 one_if b = if b then 1 else 0

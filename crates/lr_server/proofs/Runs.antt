@@ -50,7 +50,7 @@ module _ (old new : Keys) (objects : Objects) (moment : ℕ) (op : Op)
           subst (λ (k : Kind). KindStands k new next) (sym (one_kind kind (kind_of op) same)) own
       by false apart =
           kind_stays kind old new objects next (goes_on kind apart)
-          (others_stay kind objects moment op apart) (stands.kinds kind)
+          (others_stay kind objects moment op.name op.call apart) (stands.kinds kind)
 
   no_other_key : (key : List ℕ) → IsSome (entry_at new key) → (kind : Kind) × (name : List ℕ)
       × IsName name × IsTrue (list_any (bytes_eq key) (keys_of kind name))

@@ -14,7 +14,7 @@ use Rattle.lr_model.specs.Board.{Board, Connection, closed_connection, connectio
 use Rattle.lr_model.specs.History.{State, state_at_start, step, board_by, CanDrain, IsAllowed}
 use Rattle.lr_model.proofs.Histories.{after-push, IsLegal-push}
 use Rattle.lr_pubsub.specs.BoardValue.{BoardValue, board_of}
-use Rattle.lr_pubsub.proofs.Numbers.{below_few, below_least}
+use Rattle.lr_model.proofs.Numbers.{below_few, below_least}
 use Rattle.lr_server.specs.declared.answered.Answered.{Answered}
 use Rattle.lr_server.specs.Server.{ServerValue, state_of, connection_of, with_entry, moment_at, entry_of, is_asked, IsTold}
 use Rattle.lr_server.specs.Stands.{KeysStand, StateStands}

@@ -1,16 +1,20 @@
 -- For which state of a server its keys and its board stand: a relation for each kind of object,
--- and one over them all. A further kind adds a line to `KindStands`.
-use Rattle.std.specs.Prelude.{◌≡◌, ℕ, List, None, IsSome, IsTrue}
+-- and one over them all. A further kind adds a line to each table.
+use Rattle.std.specs.Prelude.{◌≡◌, ℕ, List, Option, None, IsSome, IsTrue}
 use Rattle.std.specs.List.{list_any}
 use Rattle.std.specs.Str.{bytes_eq}
 use Rattle.lr_names.specs.Key.{keys_of}
 use Rattle.lr_names.specs.Name.{IsName}
 use Rattle.lr_names.specs.declared.kind.Kind.{Kind}
-use Rattle.lr_names.specs.declared.kind.Kind.TheVariants.{Mutex, Fenced, Semaphore, Countdown}
+use Rattle.lr_names.specs.declared.kind.Kind.TheVariants as kinds
 use Rattle.lr_keys.specs.KeySpace.{Keys, entry_at}
+use Rattle.lr_model.specs.declared.hold.Hold.{Hold}
 use Rattle.lr_model.specs.Answer.{Objects}
+use Rattle.lr_model.specs.Fenced.{FencedLock}
 use Rattle.lr_model.specs.History.{State}
+use Rattle.lr_model.specs.ReadWrite.{ReadWriteLock}
 use Rattle.lr_mutex.specs.Stands.{MutexesStand}
+use Rattle.lr_rw.specs.Stands.{ReadWriteLocksStand}
 use Rattle.lr_fenced.specs.Stands.{FencedLocksStand}
 use Rattle.lr_semaphore.specs.Stands.{SemaphoresStand}
 use Rattle.lr_countdown.specs.Stands.{CountdownsStand}
@@ -23,11 +27,29 @@ pub record HasNoKeys (kind : Kind) (keys : Keys) : Type 0 where
 
 -- the keys of a kind stand for the objects of that kind; a kind without functions has no keys
 abbrev pub KindStands : Kind → Keys → Objects → Type 0
-KindStands Mutex keys objects = MutexesStand keys objects
-KindStands Fenced keys objects = FencedLocksStand keys objects
-KindStands Semaphore keys objects = SemaphoresStand keys objects
-KindStands Countdown keys objects = CountdownsStand keys objects
+KindStands kinds.Mutex keys objects = MutexesStand keys objects
+KindStands kinds.Rw keys objects = ReadWriteLocksStand keys objects
+KindStands kinds.Fenced keys objects = FencedLocksStand keys objects
+KindStands kinds.Semaphore keys objects = SemaphoresStand keys objects
+KindStands kinds.Countdown keys objects = CountdownsStand keys objects
 KindStands kind keys objects = HasNoKeys kind keys
+
+-- the objects of a kind, by their names: a kind without functions has none
+abbrev pub KindObjects : Kind → Type 0
+KindObjects kinds.Mutex = List ℕ → Option Hold
+KindObjects kinds.Rw = List ℕ → ReadWriteLock
+KindObjects kinds.Fenced = List ℕ → FencedLock
+KindObjects kinds.Semaphore = List ℕ → Option ℕ
+KindObjects kinds.Countdown = List ℕ → ℕ
+KindObjects _ = Unit {0}
+
+abbrev pub objects_of : (kind : Kind) → Objects → KindObjects kind
+objects_of kinds.Mutex objects = objects.mutexes
+objects_of kinds.Rw objects = objects.read_write_locks
+objects_of kinds.Fenced objects = objects.fenced_locks
+objects_of kinds.Semaphore objects = objects.semaphores
+objects_of kinds.Countdown objects = objects.countdowns
+objects_of _ objects = tt
 
 -- the keys stand for the objects: those of each kind do, and a key that is there is one of an
 -- object

@@ -1,13 +1,18 @@
 //! Functions by the kinds of their objects. An error leaves the keys at the same moment, and they
 //! stand for the same objects.
-ghost use Rattle.std.specs.Prelude.{◌≡◌, ◌≤◌};
+ghost use Rattle.std.specs.Prelude.{◌≤◌};
 ghost use Rattle.lr_limits.specs.Limits.{last_moment};
 ghost use Rattle.lr_server.specs.Done.{IsRun};
 
-use crate::{countdowns, fenced_locks, mutexes, semaphores};
+mod countdowns;
+mod fenced_locks;
+mod mutexes;
+mod read_write_locks;
+mod semaphores;
+
 use lr_keys::KeySpace;
-use lr_names::{Kind, Post};
-use lr_objects::{Op, Reply};
+use lr_names::Post;
+use lr_objects::{Call, Op, Reply};
 use std::alloc::{AllocError, Global};
 
 /// Runs a function on the keys of its object, at a moment that isn't before theirs.
@@ -21,13 +26,12 @@ pub(crate) fn run(
     requires in_time { keys.old.moment ≤ moment }
     ensures { IsRun keys.old keys.new moment op.now result }
 {
-    // What the type of the name says of it.
-    let _name = op.name().as_slice();
-    match op.kind() {
-        Kind::Mutex => mutexes::run(alloc, keys, moment, op),
-        Kind::Fenced => fenced_locks::run(alloc, keys, moment, op),
-        Kind::Semaphore => semaphores::run(alloc, keys, moment, op),
-        Kind::Countdown => countdowns::run(alloc, keys, moment, op),
-        Kind::Fair | Kind::Rw | Kind::Permits => unreachable!(),
+    let name = op.name();
+    match &op.call {
+        Call::Lock(call) => mutexes::run(alloc, keys, moment, name, call),
+        Call::ReadWrite(call) => read_write_locks::run(alloc, keys, moment, name, call),
+        Call::Fenced(call) => fenced_locks::run(alloc, keys, moment, name, call),
+        Call::Semaphore(call) => semaphores::run(alloc, keys, moment, name, call),
+        Call::Countdown(call) => countdowns::run(alloc, keys, moment, name, call),
     }
 }

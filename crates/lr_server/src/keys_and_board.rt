@@ -2,8 +2,7 @@
 ghost use Rattle.std.specs.Prelude.{◌≡◌, ◌≤◌, ℕ, Some, false, true, IsTrue, IfOk, OnErr};
 ghost use Rattle.lr_limits.specs.Limits.{last_moment};
 ghost use Rattle.lr_model.specs.Board.{is_open};
-ghost use Rattle.lr_model.specs.History.{State};
-ghost use Rattle.lr_model.specs.World.{call_entry};
+ghost use Rattle.lr_model.specs.History.{State, call_entry};
 ghost use Rattle.lr_pubsub.specs.BoardValue.{board_of};
 ghost use Rattle.lr_server.specs.Server.{is_asked, is_stopped};
 ghost use Rattle.lr_server.specs.Stands.{StateStands};

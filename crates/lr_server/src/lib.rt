@@ -5,12 +5,8 @@
 mod act;
 mod answered;
 mod calls;
-mod countdowns;
 mod fault;
-mod fenced_locks;
 mod keys_and_board;
-mod mutexes;
-mod semaphores;
 mod state;
 
 pub use answered::{Answer, Answered};

@@ -3,7 +3,7 @@ ghost use Rattle.lr_server.specs.Server.{act_of};
 
 use crate::{Answer, Channels, Request, ServerState, StepFault};
 use lr_names::{Channel, Kind, Name, Owner, Push, Wakes};
-use lr_objects::{Op, Reply};
+use lr_objects::{Call, LockCall, Op, Reply};
 use std::alloc::{AllocError, Global};
 use std::test::Fail;
 
@@ -56,15 +56,19 @@ fn calls_are_answered(
     name: Name,
     owner: Owner,
 ) -> Result<bool, StepFault> {
-    let take = Request::Call(Op::LockTry {
+    let take = Request::Call(Op {
         name,
-        owner,
-        lease: 30_000,
+        call: Call::Lock(LockCall::Try {
+            owner,
+            lease: 30_000,
+        }),
     });
-    let free = Request::Call(Op::LockUnlock {
+    let free = Request::Call(Op {
         name,
-        owner,
-        rest: 30_000,
+        call: Call::Lock(LockCall::Unlock {
+            owner,
+            rest: 30_000,
+        }),
     });
     let granted = answers(server, 0, &take, Answer::Reply(Reply::Granted), 0)?;
     let freed = answers(server, 0, &free, Answer::Reply(Reply::Freed), 1)?;

@@ -1,29 +1,29 @@
-//! The calls of a fenced lock.
-ghost use Rattle.std.specs.Prelude.{◌≡◌, ◌≤◌};
+//! The calls of a read-write lock.
+ghost use Rattle.std.specs.Prelude.{◌≤◌};
 ghost use Rattle.lr_limits.specs.Limits.{last_moment};
 ghost use Rattle.lr_names.specs.Name.{IsName};
-ghost use Rattle.lr_objects.specs.Op.{kind_of, name_of};
+ghost use Rattle.lr_rw.specs.Run.{read_write_op};
 ghost use Rattle.lr_server.specs.Done.{IsRun};
 
 use lr_keys::KeySpace;
-use lr_names::{Kind, Post};
-use lr_objects::{Op, Reply};
+use lr_names::{Name, Post};
+use lr_objects::{ReadWriteCall, Reply};
 use std::alloc::{AllocError, Global};
 
-/// Runs a function of a fenced lock, at a moment that isn't before that of the keys.
+/// Runs a function of a read-write lock, at a moment that isn't before that of the keys.
 pub(crate) fn run(
     alloc: Global,
     keys: &mut KeySpace,
     moment: u64,
-    op: &Op,
+    name: &Name,
+    call: &ReadWriteCall,
 ) -> Result<(Reply, Option<Post>), AllocError>
-    requires kind { kind_of op.now ≡ Kind.Fenced }
-    requires name { IsName (name_of op.now) }
+    requires name { IsName name.now }
     requires early { moment ≤ last_moment }
     requires in_time { keys.old.moment ≤ moment }
-    ensures { IsRun keys.old keys.new moment op.now result }
+    ensures { IsRun keys.old keys.new moment (read_write_op name.now call.now) result }
 {
     // What the type of the keys says of them.
     let _moment = keys.moment();
-    lr_fenced::run(alloc, keys, moment, op)
+    lr_rw::run(alloc, keys, moment, name, call)
 }
