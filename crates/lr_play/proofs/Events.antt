@@ -1,13 +1,13 @@
 -- Lines that are the texts of events, and what these show.
 use Rattle.std.proofs.Common.{◌≡◌, ℕ, suc, ◌+◌, List, [], ◌∷◌, ◌++◌, length, refl, sym, ap, ◌∙◌, subst, arith, append_assoc, append-nil}
 use Rattle.std.specs.List.{AllByRecursion}
-use Rattle.lr_model.specs.declared.event.Event.{Event}
-use Rattle.lr_model.specs.declared.event.Event.TheVariants.{Begin, Ask, Exec, Take, Tick, Force}
-use Rattle.lr_model.specs.declared.schedule_line.ScheduleLine.TheVariants as kinds
-use Rattle.lr_model.specs.EventText.{IsEvent}
-use Rattle.lr_model.specs.Within.{IsWithin, MayBegin}
-use Rattle.lr_model.specs.Transcript.{IsLine, AreLinesOf, transcript, shown_line}
-use Rattle.lr_model.specs.World.{World, shown, next, world_after}
+use Rattle.lr_steps.specs.declared.event.Event.{Event}
+use Rattle.lr_steps.specs.declared.event.Event.TheVariants.{Begin, Ask, Exec, Take, Tick, Force}
+use Rattle.lr_steps.specs.declared.schedule_line.ScheduleLine.TheVariants as kinds
+use Rattle.lr_steps.specs.EventText.{IsEvent}
+use Rattle.lr_steps.specs.Within.{IsWithin, MayBegin}
+use Rattle.lr_steps.specs.Transcript.{IsLine, AreLinesOf, transcript, shown_line}
+use Rattle.lr_steps.specs.World.{World, shown, next, world_after}
 
 -- an event more behind some events
 pub AreLinesOf-push : (k number : ℕ) (lines : List (List ℕ)) (events : List Event) (line : List ℕ) (event : Event) → number ≡ length lines + k

@@ -5,26 +5,21 @@ use Rattle.lr_limits.specs.Limits.{line_limit}
 use Rattle.lr_text.proofs.NumberLaws.{length-decimal}
 use Rattle.lr_text.specs.Words.{joined}
 use Rattle.lr_names.proofs.OwnerLaws.{length-id_text}
-use Rattle.lr_objects.specs.declared.function.Function.{Function}
-use Rattle.lr_objects.specs.declared.function.Function.TheVariants.{LockTry}
-use Rattle.lr_objects.specs.declared.function.Arguments.{Arguments}
-use Rattle.lr_objects.specs.declared.function.Arguments.TheVariants as arguments
+use Rattle.lr_objects.specs.declared.form.Arguments.{Arguments}
+use Rattle.lr_objects.specs.declared.form.Arguments.TheVariants as arguments
 use Rattle.lr_objects.specs.declared.want.Lease.{Lease}
 use Rattle.lr_objects.specs.declared.want.Want.{Want}
-use Rattle.lr_objects.specs.Function.{function_word, arguments_of}
+use Rattle.lr_objects.specs.Function.{arguments_of}
 use Rattle.lr_objects.specs.Want.{mode_word, lease_word, argument_words}
-use Rattle.lr_model.specs.declared.event.Event.{Event}
-use Rattle.lr_model.specs.declared.event.Event.TheVariants.{Begin, Ask, Exec, Take, Tick, Force}
-use Rattle.lr_model.specs.declared.schedule_line.ScheduleLine.TheVariants as kinds
-use Rattle.lr_model.specs.EventText.{event_text, IsEvent, IsMillis, IsSpelled, LeaseFits, NumberFits, IdFits}
-use Rattle.lr_model.specs.Transcript.{IsLine}
+use Rattle.lr_objects.proofs.FunctionLaws.{length-function_word}
+use Rattle.lr_steps.specs.declared.event.Event.{Event}
+use Rattle.lr_steps.specs.declared.event.Event.TheVariants.{Begin, Ask, Exec, Take, Tick, Force}
+use Rattle.lr_steps.specs.declared.schedule_line.ScheduleLine.TheVariants as kinds
+use Rattle.lr_steps.specs.EventText.{event_text, IsEvent, IsMillis, IsSpelled, LeaseFits, NumberFits, IdFits}
+use Rattle.lr_steps.specs.Transcript.{IsLine}
 
 short_number : (n : ℕ) → n < 2 ^ 64 → length (decimal n) ≤ 20
 short_number n lt = (length-decimal n lt).1
-
-short_function : (f : Function) → length (function_word f) ≤ 20
-short_function LockTry = omega arith
-short_function _ = omega arith
 
 short_lease : (lease : Lease) → IsMillis lease → length (lease_word lease) ≤ 20
 short_lease lease is = subst (λ l. length (lease_word l) ≤ 20) (sym is.1) (short_number is.0 is.2)
@@ -42,7 +37,7 @@ short_text (Begin c t mode want) is =
     let spelled : IsSpelled want = is.2 in
     let word : length (mode_word mode) ≤ 4 = subst (λ m. length (mode_word m) ≤ 4) (sym is.1.at_once) (omega arith) in
     let behind = short_arguments (arguments_of want.function) want spelled.lease spelled.number spelled.id in
-    simp length-append (omega (arith, short_number c is.0.0, short_number t is.0.1, word, short_function want.function, behind, spelled.named.short))
+    simp length-append (omega (arith, short_number c is.0.0, short_number t is.0.1, word, length-function_word want.function, behind, spelled.named.short))
 short_text (Ask c t) is = simp length-append (omega (arith, short_number c is.0, short_number t is.1))
 short_text (Exec c t) is = simp length-append (omega (arith, short_number c is.0, short_number t is.1))
 short_text (Take c t) is = simp length-append (omega (arith, short_number c is.0, short_number t is.1))

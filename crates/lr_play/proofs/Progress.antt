@@ -2,11 +2,11 @@
 use Rattle.std.proofs.Common.{◌≡◌, ◌⊎◌, inl, inr, ⊎_elim, ℕ, ◌+◌, List, [], ◌∷◌, ◌++◌, length, refl, sym, ap, ◌∙◌, subst, arith, append_assoc, append-nil}
 use Rattle.std.proofs.lemmas.List.{length-append}
 use Rattle.lr_outside.specs.Lines.{lines_of, HasNoLineEnd, IsFirstLine}
-use Rattle.lr_model.specs.declared.event.Event.{Event}
-use Rattle.lr_model.specs.declared.schedule_line.ScheduleLine.{ScheduleLine}
-use Rattle.lr_model.specs.declared.schedule_line.ScheduleLine.TheVariants as kinds
-use Rattle.lr_model.specs.Transcript.{IsLine, AreLinesOf, shown_line, bad_line, too_many_line}
-use Rattle.lr_model.specs.World.{World, first_world, world_after, shown, next}
+use Rattle.lr_steps.specs.declared.event.Event.{Event}
+use Rattle.lr_steps.specs.declared.schedule_line.ScheduleLine.{ScheduleLine}
+use Rattle.lr_steps.specs.declared.schedule_line.ScheduleLine.TheVariants as kinds
+use Rattle.lr_steps.specs.Transcript.{IsLine, AreLinesOf, shown_line, bad_line, too_many_line}
+use Rattle.lr_steps.specs.World.{World, first_world, world_after, shown, next}
 use Rattle.lr_laws.proofs.Schedules.{goes_well_throughout}
 use Rattle.lr_play.specs.Ends.{lines_with_ends, shown_of, IsRun, RanThrough, StoppedAt, BrokeOff, WereRead, ShowsEvents, ShowsRefusal, WrittenInPart}
 use Rattle.lr_play.specs.Progress.{Progress, text_of}

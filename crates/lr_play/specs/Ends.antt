@@ -3,12 +3,12 @@ use Rattle.std.specs.Prelude.{◌≡◌, ◌⊎◌, ℕ, ◌+◌, Bool, true, fa
 use Rattle.lr_outside.specs.Lines.{lines_of, HasNoLineEnd}
 use Rattle.lr_outside.specs.declared.status.Status.{Status}
 use Rattle.lr_outside.specs.declared.status.Status.TheVariants.{Done, Usage, ReadFault, WriteFault, BadLine, NoMemory, TooMany, Wrong, Closed}
-use Rattle.lr_model.specs.declared.event.Event.{Event}
-use Rattle.lr_model.specs.declared.schedule_line.ScheduleLine.{ScheduleLine}
-use Rattle.lr_model.specs.declared.schedule_line.ScheduleLine.TheVariants as kinds
-use Rattle.lr_model.specs.Sound.{GoesWellThroughout}
-use Rattle.lr_model.specs.Transcript.{IsLine, AreLinesOf, transcript, bad_line, too_many_line}
-use Rattle.lr_model.specs.World.{first_world}
+use Rattle.lr_steps.specs.declared.event.Event.{Event}
+use Rattle.lr_steps.specs.declared.schedule_line.ScheduleLine.{ScheduleLine}
+use Rattle.lr_steps.specs.declared.schedule_line.ScheduleLine.TheVariants as kinds
+use Rattle.lr_steps.specs.Sound.{GoesWellThroughout}
+use Rattle.lr_steps.specs.Transcript.{IsLine, AreLinesOf, transcript, bad_line, too_many_line}
+use Rattle.lr_steps.specs.World.{first_world}
 
 -- the command has the one word `play`
 abbrev pub IsPlay : List (List ℕ) → Type 0

@@ -148,6 +148,27 @@ const FENCED_LOCKS: [Step; 11] = [
     Step::Do(2, "fenced_try g 86400000001", "bad-lease", "bad-lease"),
 ];
 
+const READ_WRITE_LOCKS: [Step; 13] = [
+    Step::Do(1, "rw_read a 1000", "granted", "granted"),
+    Step::Do(2, "rw_read a 2000", "granted", "granted"),
+    Step::Do(1, "rw_write a 5", "busy 2000", "busy 2000"),
+    Step::Do(3, "rw_write a 5", "busy 2000", "busy 2000"),
+    Step::Do(2, "rw_unlock_read a 30000", "freed", "freed"),
+    Step::Do(1, "rw_unlock_read a 30000", "freed post ch:rw:a 0", "freed"),
+    Step::Do(1, "rw_write a 1000", "granted", "granted"),
+    Step::Do(1, "rw_read a 5", "granted", "granted"),
+    Step::Do(2, "rw_read a 5", "busy 1000", "busy 1000"),
+    Step::Line("tick 5", "moment 5"),
+    Step::Do(1, "rw_unlock_read a 30000", "not-held", "not-held"),
+    Step::Do(
+        1,
+        "rw_unlock_write a 30000",
+        "freed post ch:rw:a 0",
+        "freed",
+    ),
+    Step::Do(2, "rw_write a 0", "bad-lease", "bad-lease"),
+];
+
 const SEMAPHORES: [Step; 9] = [
     Step::Do(1, "sem_set s 1", "set post ch:sem:s 0", "set"),
     Step::Do(1, "sem_set s 4", "already-set", "already-set"),
@@ -286,6 +307,12 @@ fn locks_with_leases(rt: HostRuntime) -> Result<(), Fail> {
 #[test]
 fn tokens_grow(rt: HostRuntime) -> Result<(), Fail> {
     assert!(rt; is_shown(rt.alloc(), &FENCED_LOCKS)?);
+    Ok(())
+}
+
+#[test]
+fn readers_keep_a_writer_out(rt: HostRuntime) -> Result<(), Fail> {
+    assert!(rt; is_shown(rt.alloc(), &READ_WRITE_LOCKS)?);
     Ok(())
 }
 

@@ -2,10 +2,10 @@ ghost use Rattle.std.specs.Prelude.{◌≡◌, ◌⊎◌, ◌↔◌, List, ℕ, 
 ghost use Rattle.std.specs.List.{AllByRecursion};
 ghost use Rattle.lr_outside.specs.Lines.{lines_of};
 ghost use Rattle.lr_outside.specs.Turns.{CountsFaults, Rose};
-ghost use Rattle.lr_model.specs.declared.event.Event.{Event};
-ghost use Rattle.lr_model.specs.Sound.{GoesWell};
-ghost use Rattle.lr_model.specs.Transcript.{AreLinesOf};
-ghost use Rattle.lr_model.specs.Within.{IsWithin};
+ghost use Rattle.lr_steps.specs.declared.event.Event.{Event};
+ghost use Rattle.lr_steps.specs.Sound.{GoesWell};
+ghost use Rattle.lr_steps.specs.Transcript.{AreLinesOf};
+ghost use Rattle.lr_steps.specs.Within.{IsWithin};
 ghost use Rattle.lr_play.specs.Ends.{WhereTold, EndsSo, IsPlay, IsEndOfPlay, is_read_fault, is_write_fault};
 
 use crate::run::run;
@@ -22,8 +22,8 @@ use std::alloc::Global;
 /// BadLine and TooMany what the lines up to that line show; at ReadFault what the whole lines read so
 /// far show; at WriteFault and NoMemory a front of such a text. Each names the events of the run:
 /// their texts are the lines, and after each of them the history is legal, holds each caller's calls
-/// once and in order, no two claims that conflict are held at once, tokens grow, no semaphore has
-/// granted more than there was, and latches count down. Want of memory may end a run at any line.
+/// once and in order, no two claims that conflict are held at once, and what is promised of the
+/// replies of each kind of object is so. Want of memory may end a run at any line.
 pub fn play_top<S: Source, K: Sink>(
     alloc: Global,
     words: &[Text],
@@ -55,8 +55,8 @@ pub fn play_top<S: Source, K: Sink>(
         → (result ≡ Status.Done) ⊎ (result ≡ Status.NoMemory) }
 
     // After each event of each schedule the history is legal, holds each caller's calls once and in
-    // order, no two claims that conflict are held at once, tokens grow, no semaphore has granted more
-    // than there was, and latches count down.
+    // order, no two claims that conflict are held at once, and what is promised of the replies of
+    // each kind of object is so.
     ensures every_event { (events : List Event) → AllByRecursion IsWithin events → GoesWell events }
 {
     if !is_play(words) {

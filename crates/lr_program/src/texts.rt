@@ -31,7 +31,12 @@ here, a LEASE in milliseconds, or a number N from 1 to 1000000000. These work to
 
   lock_try NAME LEASE       takes the lock for LEASE, where it is free or the thread holds it.
   lock_unlock NAME LEASE    gives a hold back. Where more are left, they last for LEASE from now.
-  fenced_try NAME LEASE     the same of a fenced lock, with a token that grows with each holder.
+  rw_read NAME LEASE        takes the read-write lock to read, where no other thread writes.
+  rw_write NAME LEASE       takes it to write, where nobody holds it or the thread writes.
+  rw_unlock_read NAME LEASE gives a hold to read back.
+  rw_unlock_write NAME LEASE
+                            gives a hold to write back.
+  fenced_try NAME LEASE     takes a fenced lock, with a token that grows with each holder.
   fenced_unlock NAME LEASE  gives a hold back.
   fenced_token NAME         tells the last token.
   sem_set NAME N            gives the semaphore N permits, where it has no number yet.

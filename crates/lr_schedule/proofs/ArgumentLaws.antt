@@ -7,18 +7,19 @@ use Rattle.uuid.specs.Text.{parsed}
 use Rattle.lr_text.specs.WordTable.{with_word}
 use Rattle.lr_names.specs.Owner.{IsId, id_text}
 use Rattle.lr_names.proofs.OwnerLaws.{parsed-id_text}
-use Rattle.lr_objects.specs.declared.function.Function.{Function}
-use Rattle.lr_objects.specs.declared.function.Function.TheVariants.{LockTry}
-use Rattle.lr_objects.specs.declared.function.TheConstants.Function.{ALL}
-use Rattle.lr_objects.specs.declared.function.Arguments.{Arguments}
-use Rattle.lr_objects.specs.declared.function.Arguments.TheVariants as arguments
+use Rattle.lr_objects.specs.declared.kinds.Function.{Function}
+use Rattle.lr_objects.specs.declared.kinds.Function.TheVariants.{Lock}
+use Rattle.lr_objects.specs.declared.kinds.TheConstants.Function.{ALL}
+use Rattle.lr_objects.specs.declared.form.Arguments.{Arguments}
+use Rattle.lr_objects.specs.declared.form.Arguments.TheVariants as arguments
+use Rattle.lr_objects.specs.declared.lock.LockFunction.TheVariants as lock
 use Rattle.lr_objects.specs.declared.want.Lease.{Lease}
 use Rattle.lr_objects.specs.declared.want.Lease.TheVariants as leases
 use Rattle.lr_objects.specs.declared.want.Want.{Want}
 use Rattle.lr_objects.specs.Function.{function_word, arguments_of}
 use Rattle.lr_objects.specs.Want.{lease_word, argument_words}
 use Rattle.lr_objects.proofs.FunctionLaws.{IsWordTable-function_word}
-use Rattle.lr_model.specs.EventText.{IsMillis, LeaseFits, NumberFits, IdFits, IsSpelled}
+use Rattle.lr_steps.specs.EventText.{IsMillis, LeaseFits, NumberFits, IdFits, IsSpelled}
 
 -- the number of a word
 pub value : List ℕ → ℕ
@@ -39,11 +40,11 @@ id_of-id_text id h = sym (ap (λ o. unwrap_or o []) (parsed-id_text id h))
 
 -- the function of a word
 pub function_of : List ℕ → Function
-function_of word = unwrap_or (with_word function_word ALL word) LockTry
+function_of word = unwrap_or (with_word function_word ALL word) (Lock lock.Try)
 
 function_of-word : (function : Function) → function_of (function_word function) ≡ function
 unfolding function_of
-function_of-word function = ap (λ o. unwrap_or o LockTry) (IsWordTable-function_word function)
+function_of-word function = ap (λ o. unwrap_or o (Lock lock.Try)) (IsWordTable-function_word function)
 
 -- the lease of a word
 lease_of-word : (lease : Lease) → IsMillis lease

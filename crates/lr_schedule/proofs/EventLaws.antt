@@ -3,13 +3,13 @@ use Rattle.std.proofs.Common.{◌≡◌, ℕ, ◌<◌, List, [], ◌∷◌, ◌+
 use Rattle.lr_text.specs.Words.{words_of, joined, are_words}
 use Rattle.lr_text.proofs.WordLaws.{words_of-joined}
 use Rattle.lr_objects.specs.declared.want.Mode.TheVariants.{Once}
-use Rattle.lr_model.specs.declared.event.Event.{Event}
-use Rattle.lr_model.specs.declared.event.Event.TheVariants.{Begin, Ask, Exec, Take, Tick, Force}
-use Rattle.lr_model.specs.declared.schedule_line.ScheduleLine.{ScheduleLine}
-use Rattle.lr_model.specs.declared.schedule_line.ScheduleLine.TheVariants as lines
-use Rattle.lr_model.specs.EventText.{event_words, event_text, IsEvent}
-use Rattle.lr_model.specs.Transcript.{IsLine}
-use Rattle.lr_model.specs.Within.{IsWithin}
+use Rattle.lr_steps.specs.declared.event.Event.{Event}
+use Rattle.lr_steps.specs.declared.event.Event.TheVariants.{Begin, Ask, Exec, Take, Tick, Force}
+use Rattle.lr_steps.specs.declared.schedule_line.ScheduleLine.{ScheduleLine}
+use Rattle.lr_steps.specs.declared.schedule_line.ScheduleLine.TheVariants as lines
+use Rattle.lr_steps.specs.EventText.{event_words, event_text, IsEvent}
+use Rattle.lr_steps.specs.Transcript.{IsLine}
+use Rattle.lr_steps.specs.Within.{IsWithin}
 use Rattle.lr_schedule.specs.declared.spelled.Spelled.{Spelled}
 use Rattle.lr_schedule.specs.declared.spelled.Spelled.TheVariants as spelled
 use Rattle.lr_schedule.specs.declared.verb.Verb.{Verb}

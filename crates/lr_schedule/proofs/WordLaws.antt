@@ -10,16 +10,16 @@ use Rattle.lr_text.proofs.WordLaws.{lacks-from_places}
 use Rattle.lr_names.specs.Owner.{id_text}
 use Rattle.lr_names.proofs.NameLaws.{name-lacks}
 use Rattle.lr_names.proofs.OwnerLaws.{length-id_text}
-use Rattle.lr_objects.specs.declared.function.Arguments.{Arguments}
-use Rattle.lr_objects.specs.declared.function.Arguments.TheVariants as arguments
+use Rattle.lr_objects.specs.declared.form.Arguments.{Arguments}
+use Rattle.lr_objects.specs.declared.form.Arguments.TheVariants as arguments
 use Rattle.lr_objects.specs.declared.want.Lease.{Lease}
 use Rattle.lr_objects.specs.declared.want.Want.{Want}
 use Rattle.lr_objects.specs.Function.{arguments_of}
 use Rattle.lr_objects.specs.Want.{mode_word, lease_word, argument_words, want_words}
 use Rattle.lr_objects.proofs.FunctionLaws.{function_word-lacks}
-use Rattle.lr_model.specs.declared.event.Event.{Event}
-use Rattle.lr_model.specs.declared.event.Event.TheVariants.{Begin, Ask, Exec, Take, Tick, Force}
-use Rattle.lr_model.specs.EventText.{event_words, IsMillis, LeaseFits, NumberFits, AreNumbers, IsEvent}
+use Rattle.lr_steps.specs.declared.event.Event.{Event}
+use Rattle.lr_steps.specs.declared.event.Event.TheVariants.{Begin, Ask, Exec, Take, Tick, Force}
+use Rattle.lr_steps.specs.EventText.{event_words, IsMillis, LeaseFits, NumberFits, AreNumbers, IsEvent}
 
 lease-is_word : (lease : Lease) → IsMillis lease → IsTrue (lacks 32 (lease_word lease))
 lease-is_word lease h = rw h.1 (decimal-is_word h.0 h.2)

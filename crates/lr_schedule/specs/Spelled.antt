@@ -2,16 +2,16 @@
 use Rattle.std.specs.Prelude.{◌≡◌, ℕ, ◌≤◌, List, ◌++◌, codes}
 use Rattle.lr_limits.specs.Limits.{event_limit}
 use Rattle.lr_names.specs.Owner.{IsThread}
-use Rattle.lr_objects.specs.declared.function.Arguments.{Arguments}
+use Rattle.lr_objects.specs.declared.form.Arguments.{Arguments}
 use Rattle.lr_objects.specs.declared.want.Mode.TheVariants.{Once}
 use Rattle.lr_objects.specs.declared.want.Want.{Want}
-use Rattle.lr_model.specs.declared.event.Event.{Event}
-use Rattle.lr_model.specs.declared.event.Event.TheVariants as events
-use Rattle.lr_model.specs.declared.schedule_line.ScheduleLine.{ScheduleLine}
-use Rattle.lr_model.specs.declared.schedule_line.ScheduleLine.TheVariants as lines
-use Rattle.lr_model.specs.EventText.{event_words, LeaseFits, NumberFits, IdFits, IsEvent}
+use Rattle.lr_steps.specs.declared.event.Event.{Event}
+use Rattle.lr_steps.specs.declared.event.Event.TheVariants as events
+use Rattle.lr_steps.specs.declared.schedule_line.ScheduleLine.{ScheduleLine}
+use Rattle.lr_steps.specs.declared.schedule_line.ScheduleLine.TheVariants as lines
+use Rattle.lr_steps.specs.EventText.{event_words, LeaseFits, NumberFits, IdFits, IsEvent}
 use Rattle.lr_objects.specs.Want.{HasAmount}
-use Rattle.lr_model.specs.Within.{IsClient, IsWithin, HasOwnLease}
+use Rattle.lr_steps.specs.Within.{IsClient, IsWithin, HasOwnLease}
 use Rattle.lr_schedule.specs.declared.verb.Verb.{Verb}
 use Rattle.lr_schedule.specs.declared.verb.Verb.TheVariants as verbs
 use Rattle.lr_schedule.specs.declared.spelled.Who.{Who}

@@ -1,15 +1,15 @@
 ghost use Rattle.std.specs.Prelude.{◌≡◌, ◌≢◌, ◌≤◌, ℕ, List, [], ◌∷◌, ◌++◌, codes, decimal, true, IsErr, IfOk, OnOk};
 ghost use Rattle.lr_limits.specs.Limits.{last_moment};
 ghost use Rattle.lr_names.specs.Name.{IsName};
-ghost use Rattle.lr_objects.specs.declared.function.Function.{Function};
+ghost use Rattle.lr_objects.specs.declared.kinds.Function.{Function};
 ghost use Rattle.lr_objects.specs.declared.want.Mode.TheVariants.{Once};
 ghost use Rattle.lr_objects.specs.declared.want.Want.{Want};
 ghost use Rattle.lr_objects.specs.Function.{function_word, begins};
 ghost use Rattle.lr_objects.specs.Want.{mode_word, want_words};
-ghost use Rattle.lr_model.specs.declared.event.Event.{Event};
-ghost use Rattle.lr_model.specs.EventText.{event_text, AreNumbers, IsEvent, IsSpelled};
-ghost use Rattle.lr_model.specs.Transcript.{IsLine};
-ghost use Rattle.lr_model.specs.Within.{CanBegin};
+ghost use Rattle.lr_steps.specs.declared.event.Event.{Event};
+ghost use Rattle.lr_steps.specs.EventText.{event_text, AreNumbers, IsEvent, IsSpelled};
+ghost use Rattle.lr_steps.specs.Transcript.{IsLine};
+ghost use Rattle.lr_steps.specs.Within.{CanBegin};
 ghost use Rattle.lr_schedule.specs.declared.spelled.Spelled.{Spelled};
 ghost use Rattle.lr_schedule.specs.declared.verb.Verb.{Verb};
 ghost use Rattle.lr_schedule.specs.Spelled.{event_of, verb_word, Spells};
@@ -20,8 +20,8 @@ use crate::reader::Reader;
 use crate::spelled::{Spelled, Who};
 use crate::verb::Verb;
 use lr_limits::LAST_MOMENT;
-use lr_model::ScheduleLine;
 use lr_objects::{Function, Want};
+use lr_steps::ScheduleLine;
 
 /// What the line of a schedule with this number is.
 ///

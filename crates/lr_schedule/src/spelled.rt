@@ -1,13 +1,13 @@
 ghost use Rattle.std.specs.Prelude.{◌≡◌, ◌↔◌, ◌≤◌, ℕ, IsTrue, IsErr, IfOk};
 ghost use Rattle.lr_names.specs.Owner.{IsThread};
-ghost use Rattle.lr_model.specs.Within.{IsClient, IsWithin};
+ghost use Rattle.lr_steps.specs.Within.{IsClient, IsWithin};
 ghost use Rattle.lr_schedule.specs.Spelled.{event_of, AreWithin, IsLimited};
 
 use crate::fault::Outside;
 use lr_limits::{MOST_CLIENTS, MOST_EVENTS, MOST_THREADS};
-use lr_model::{Event, ScheduleLine, ThreadId};
 use lr_names::Name;
 use lr_objects::{Mode, Want};
+use lr_steps::{Event, ScheduleLine, ThreadId};
 
 /// A client and a thread as a line spells them: they may be outside the limits.
 #[derive(Clone, Copy)]

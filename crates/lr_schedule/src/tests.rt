@@ -2,9 +2,9 @@ use crate::arguments::read_arguments;
 use crate::reader::Reader;
 use crate::{explain, read_line, write_bad, write_shown, write_too_many};
 use lr_limits::{LINE_BYTES, MOST_EVENTS};
-use lr_model::{Event, Found, Reached, Replied, ScheduleLine, Shown};
 use lr_names::{Channel, Kind, Name};
-use lr_objects::{Arguments, Function, Lease, Mode, Remaining, Reply, Want};
+use lr_objects::{Arguments, Function, Lease, LockFunction, Mode, Remaining, Reply, Want};
+use lr_steps::{Event, Found, Reached, Replied, ScheduleLine, Shown};
 use lr_text::Text;
 use std::alloc::{AllocError, Global};
 use std::test::Fail;
@@ -51,9 +51,9 @@ const REPLIES: [(Reply, &str); 8] = [
 const REASONS: [(&str, &str); 10] = [
     (
         "begin 1 1 once lock_tyr a 5",
-        "\"lock_tyr\" is no function; functions are lock_try, lock_unlock, fenced_try, \
-         fenced_unlock, fenced_token, sem_set, sem_try, sem_release, sem_count, latch_set, \
-         latch_down, latch_count (word 5 of ",
+        "\"lock_tyr\" is no function; functions are lock_try, lock_unlock, rw_read, rw_write, \
+         rw_unlock_read, rw_unlock_write, fenced_try, fenced_unlock, fenced_token, sem_set, \
+         sem_try, sem_release, sem_count, latch_set, latch_down, latch_count (word 5 of ",
     ),
     (
         "begin 1 1 once lock_try a! 5",
@@ -98,7 +98,7 @@ fn is_event(line: &str, event: Event) -> bool {
 
 fn want(name: Name) -> Want {
     Want {
-        function: Function::LockTry,
+        function: Function::Lock(LockFunction::Try),
         name,
         lease: Lease::For(30_000),
         number: 0,
@@ -138,7 +138,13 @@ fn lines_outside_are_too_many() -> bool {
 // What a function of these arguments is given by these words.
 fn given(arguments: Arguments, name: Name, words: &str) -> Option<Want> {
     let mut reader = Reader::new(words.as_bytes());
-    read_arguments(arguments, Function::LockTry, name, &mut reader).ok()
+    read_arguments(
+        arguments,
+        Function::Lock(LockFunction::Try),
+        name,
+        &mut reader,
+    )
+    .ok()
 }
 
 fn amounts_are_read(name: Name) -> bool {

@@ -1,10 +1,10 @@
 ghost use Rattle.std.specs.Prelude.{◌≡◌, ◌+◌, ◌≤◌, length, ◌++◌, decimal, OnOk, OnErr};
 ghost use Rattle.lr_objects.specs.Reply.{number_text, reply_text};
-ghost use Rattle.lr_model.specs.Transcript.{post_text, found_word, shown_text, shown_line, bad_line, too_many_line};
+ghost use Rattle.lr_steps.specs.Transcript.{post_text, found_word, shown_text, shown_line, bad_line, too_many_line};
 
 use itoa::Buffer;
-use lr_model::{Found, Reached, Replied, Shown};
 use lr_objects::Reply;
+use lr_steps::{Found, Reached, Replied, Shown};
 use lr_text::{ShortText, Text};
 use std::alloc::AllocError;
 

@@ -5,14 +5,14 @@ use Rattle.lr_names.specs.Owner.{ThreadOfClient}
 use Rattle.lr_objects.specs.declared.reply.Reply.{Reply}
 use Rattle.lr_objects.specs.declared.want.Mode.{Mode}
 use Rattle.lr_objects.specs.declared.want.Want.{Want}
-use Rattle.lr_model.specs.declared.event.Event.{Event}
-use Rattle.lr_model.specs.declared.event.Event.TheVariants.{Begin, Ask, Exec, Take, Tick, Force}
-use Rattle.lr_model.specs.declared.waiter.Asking.{Asking}
-use Rattle.lr_model.specs.declared.waiter.Stage.{Stage}
-use Rattle.lr_model.specs.declared.waiter.Stage.TheVariants.{Fresh, Asked, Answered}
-use Rattle.lr_model.specs.declared.waiter.Waiter.{Waiter}
-use Rattle.lr_model.specs.Within.{CanBegin, MayBegin}
-use Rattle.lr_model.specs.World.{World, Client, new_waiter, with_waiter, begin_at, begin_row, ask_at, ask_row, row_of, waiter_after_ask, waiting_reply, take_at, take_row, answered_at, client_after_exec, asked_of, waiter_of, clients_after, owner_of, next_exec, next}
+use Rattle.lr_steps.specs.declared.event.Event.{Event}
+use Rattle.lr_steps.specs.declared.event.Event.TheVariants.{Begin, Ask, Exec, Take, Tick, Force}
+use Rattle.lr_steps.specs.declared.waiter.Asking.{Asking}
+use Rattle.lr_steps.specs.declared.waiter.Stage.{Stage}
+use Rattle.lr_steps.specs.declared.waiter.Stage.TheVariants.{Fresh, Asked, Answered}
+use Rattle.lr_steps.specs.declared.waiter.Waiter.{Waiter}
+use Rattle.lr_steps.specs.Within.{CanBegin, MayBegin}
+use Rattle.lr_steps.specs.World.{World, Client, new_waiter, with_waiter, begin_at, begin_row, ask_at, ask_row, row_of, waiter_after_ask, waiting_reply, take_at, take_row, answered_at, client_after_exec, asked_of, waiter_of, clients_after, owner_of, next_exec, next}
 use Rattle.lr_world.specs.World.{AreBegun, AllBegun}
 
 -- a client with another request of a thread

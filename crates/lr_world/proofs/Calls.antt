@@ -9,9 +9,9 @@ use Rattle.lr_model.specs.declared.entry.Act.TheVariants.{Call}
 use Rattle.lr_model.specs.declared.entry.Entry.{Entry}
 use Rattle.lr_model.specs.Answer.{reply_of, post_of}
 use Rattle.lr_model.specs.Board.{Board}
-use Rattle.lr_model.specs.History.{State, state_at_start, after, MayFollow, Replies}
+use Rattle.lr_model.specs.History.{State, state_at_start, after, MayFollow, Replies, call_entry}
 use Rattle.lr_model.specs.Moment.{later}
-use Rattle.lr_model.specs.World.{first_state, call_entry, replied_at, reached_post}
+use Rattle.lr_steps.specs.World.{first_state, replied_at, reached_post}
 use Rattle.lr_server.specs.declared.fault.StepFault.{StepFault}
 use Rattle.lr_server.specs.declared.fault.StepFault.TheVariants as faults
 use Rattle.lr_server.specs.declared.answered.Answer.{Answer}

@@ -1,9 +1,9 @@
 -- Clients after a change of one thread's request.
 use Rattle.std.proofs.Common.{◌≡◌, ◌==◌, ℕ, List, Bool, true, false, ◌&&◌, Option, if◌then◌else◌, refl, sym, ap, ◌∙◌}
 use Rattle.std.proofs.lemmas.Bool.{eqb-true}
-use Rattle.lr_model.specs.declared.waiter.ThreadId.{ThreadId}
-use Rattle.lr_model.specs.declared.waiter.Waiter.{Waiter}
-use Rattle.lr_model.specs.World.{Client, with_waiter}
+use Rattle.lr_steps.specs.declared.waiter.ThreadId.{ThreadId}
+use Rattle.lr_steps.specs.declared.waiter.Waiter.{Waiter}
+use Rattle.lr_steps.specs.World.{Client, with_waiter}
 use Rattle.lr_world.specs.Requests.{thread_of, same_thread, request_of, clients_of, with_request}
 
 module _ (old new : List (ThreadId × Waiter)) (id : ThreadId) (waiter : Option Waiter) (changed : (q : ThreadId) → request_of new q ≡ (if same_thread id q then waiter else request_of old q)) where

@@ -1,9 +1,9 @@
 -- The requests that threads have begun, as the clients that they make.
 use Rattle.std.specs.Prelude.{◌==◌, ℕ, List, Bool, ◌&&◌, Option, Some}
 use Rattle.std.specs.Map.{lookup}
-use Rattle.lr_model.specs.declared.waiter.ThreadId.{ThreadId}
-use Rattle.lr_model.specs.declared.waiter.Waiter.{Waiter}
-use Rattle.lr_model.specs.World.{Client, with_waiter, clients_after}
+use Rattle.lr_steps.specs.declared.waiter.ThreadId.{ThreadId}
+use Rattle.lr_steps.specs.declared.waiter.Waiter.{Waiter}
+use Rattle.lr_steps.specs.World.{Client, with_waiter, clients_after}
 
 -- a thread by its numbers
 abbrev pub thread_of : ℕ → ℕ → ThreadId

@@ -2,11 +2,11 @@
 use Rattle.std.specs.Prelude.{◌≡◌, ℕ, ◌≤◌, List, length, Some}
 use Rattle.lr_limits.specs.Limits.{event_limit, last_moment}
 use Rattle.lr_model.specs.declared.entry.Entry.{Entry}
-use Rattle.lr_model.specs.declared.waiter.ThreadId.{ThreadId}
-use Rattle.lr_model.specs.declared.waiter.Waiter.{Waiter}
-use Rattle.lr_model.specs.Sound.{IsInOrder}
-use Rattle.lr_model.specs.Within.{CanBegin}
-use Rattle.lr_model.specs.World.{World, Client}
+use Rattle.lr_steps.specs.declared.waiter.ThreadId.{ThreadId}
+use Rattle.lr_steps.specs.declared.waiter.Waiter.{Waiter}
+use Rattle.lr_steps.specs.Sound.{IsInOrder}
+use Rattle.lr_steps.specs.Within.{CanBegin}
+use Rattle.lr_steps.specs.World.{World, Client}
 use Rattle.lr_world.specs.Requests.{clients_of}
 
 -- the server's history, the moment, the requests that threads have begun, and how many events were

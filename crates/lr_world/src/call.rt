@@ -2,16 +2,16 @@
 ghost use Rattle.std.specs.Prelude.{◌≡◌, ◌<◌, ◌≤◌, length, IfOk, OnOk, OnErr};
 ghost use Rattle.lr_limits.specs.Limits.{entry_limit, last_moment};
 ghost use Rattle.lr_objects.specs.declared.reply.Reply.{Reply};
-ghost use Rattle.lr_model.specs.History.{after, MayFollow};
-ghost use Rattle.lr_model.specs.World.{first_state, call_entry, replied_at};
+ghost use Rattle.lr_model.specs.History.{after, MayFollow, call_entry};
+ghost use Rattle.lr_steps.specs.World.{first_state, replied_at};
 ghost use Rattle.lr_server.specs.Server.{with_entry};
 ghost use Rattle.lr_server.specs.declared.answered.Answer.TheVariants as answers;
 ghost use Rattle.lr_world.specs.Reached.{replied_with};
 
-use lr_model::{Reached, Replied};
 use lr_names::Post;
 use lr_objects::{Op, Reply};
 use lr_server::{Answer, Request, ServerState, StepFault};
+use lr_steps::{Reached, Replied};
 use std::alloc::AllocError;
 
 /// Runs a call of a connection that may call. An error changes nothing.

@@ -1,10 +1,10 @@
 //! The requests of the clients' threads.
 ghost use Rattle.std.specs.Prelude.{◌≡◌, List, [], Some, None, IsSome, OnOk, OnErr};
-ghost use Rattle.lr_model.specs.declared.waiter.ThreadId.{ThreadId};
+ghost use Rattle.lr_steps.specs.declared.waiter.ThreadId.{ThreadId};
 ghost use Rattle.lr_world.specs.Requests.{request_of, clients_of, with_request};
 
 use indexmap::IndexMap;
-use lr_model::{ThreadId, Waiter};
+use lr_steps::{ThreadId, Waiter};
 use std::alloc::{AllocError, Global};
 use std::marker::Model;
 
@@ -17,8 +17,8 @@ pub(crate) struct Requests {
 
 impl Model for Requests {
     ghost use Rattle.std.specs.Prelude.{List};
-    ghost use Rattle.lr_model.specs.declared.waiter.ThreadId.{ThreadId};
-    ghost use Rattle.lr_model.specs.declared.waiter.Waiter.{Waiter};
+    ghost use Rattle.lr_steps.specs.declared.waiter.ThreadId.{ThreadId};
+    ghost use Rattle.lr_steps.specs.declared.waiter.Waiter.{Waiter};
 
     ghost Value = { List (ThreadId × Waiter) };
 

@@ -4,20 +4,20 @@ ghost use Rattle.lr_limits.specs.Limits.{entry_limit, last_moment};
 ghost use Rattle.lr_names.specs.Owner.{IsThread};
 ghost use Rattle.lr_objects.specs.Function.{arguments_of};
 ghost use Rattle.lr_objects.specs.Want.{HasAmount};
-ghost use Rattle.lr_model.specs.declared.shown.Shown.TheVariants as shows;
-ghost use Rattle.lr_model.specs.declared.waiter.Stage.TheVariants.{Answered};
-ghost use Rattle.lr_model.specs.Sound.{IsInOrder};
-ghost use Rattle.lr_model.specs.Within.{IsClient};
-ghost use Rattle.lr_model.specs.World.{owner_of, caller_of, command_connection, phase_of, begin_row, ask_row, take_row, waiter_after_ask, asked_at, asked_of, reply_at, waiting_reply, with_stage, shown_row, shown_exec, shown_take, clients_after, next_exec};
+ghost use Rattle.lr_steps.specs.declared.shown.Shown.TheVariants as shows;
+ghost use Rattle.lr_steps.specs.declared.waiter.Stage.TheVariants.{Answered};
+ghost use Rattle.lr_steps.specs.Sound.{IsInOrder};
+ghost use Rattle.lr_steps.specs.Within.{IsClient};
+ghost use Rattle.lr_steps.specs.World.{owner_of, caller_of, command_connection, phase_of, begin_row, ask_row, take_row, waiter_after_ask, asked_at, asked_of, reply_at, waiting_reply, with_stage, shown_row, shown_exec, shown_take, clients_after, next_exec};
 ghost use Rattle.lr_world.specs.Requests.{request_of, clients_of};
 ghost use Rattle.lr_world.specs.World.{AreBegun, world_with};
 
 use crate::call::call;
 use crate::requests::Requests;
-use lr_model::{Asking, Found, Shown, Stage, ThreadId, Waiter};
 use lr_names::Owner;
 use lr_objects::{Mode, Reply, Want};
 use lr_server::ServerState;
+use lr_steps::{Asking, Found, Shown, Stage, ThreadId, Waiter};
 use std::alloc::AllocError;
 use uuid::Uuid;
 

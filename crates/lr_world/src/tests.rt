@@ -1,10 +1,10 @@
 ghost use Rattle.std.specs.Prelude.{◌≡◌};
-ghost use Rattle.lr_model.specs.Within.{MayBegin, IsWithin};
+ghost use Rattle.lr_steps.specs.Within.{MayBegin, IsWithin};
 
 use crate::World;
-use lr_model::{Event, Shown};
 use lr_names::Name;
-use lr_objects::{Function, Lease, Mode, Want};
+use lr_objects::{Function, Lease, LockFunction, Mode, Want};
+use lr_steps::{Event, Shown};
 use std::test::Fail;
 use uuid::Uuid;
 
@@ -18,7 +18,7 @@ fn begin(name: Name) -> Event
         thread: 1,
         mode: Mode::Once,
         want: Want {
-            function: Function::LockTry,
+            function: Function::Lock(LockFunction::Try),
             name,
             lease: Lease::For(1_000),
             number: 0,

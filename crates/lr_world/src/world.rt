@@ -1,21 +1,20 @@
 ghost use Rattle.std.specs.Prelude.{◌≡◌, ◌<◌, ◌≤◌, ◌+◌, [], ◌∷◌, ◌++◌, length, IfOk, OnOk, OnErr};
 ghost use Rattle.lr_limits.specs.Limits.{event_limit, entry_limit, last_moment};
-ghost use Rattle.lr_objects.specs.declared.op.Op.TheVariants.{LockForce};
-ghost use Rattle.lr_model.specs.declared.shown.Shown.TheVariants as shows;
-ghost use Rattle.lr_model.specs.History.{after};
-ghost use Rattle.lr_model.specs.Sound.{IsInOrder, IsSound};
-ghost use Rattle.lr_model.specs.Within.{IsWithin, MayBegin};
-ghost use Rattle.lr_model.specs.World.{first_state, first_world, operator, operator_connection, call_entry, replied_at, shown, next, deeds_of, deeds_of_event};
+ghost use Rattle.lr_model.specs.History.{after, call_entry, deeds_of};
+ghost use Rattle.lr_steps.specs.declared.shown.Shown.TheVariants as shows;
+ghost use Rattle.lr_steps.specs.Sound.{IsInOrder, IsSound};
+ghost use Rattle.lr_steps.specs.Within.{IsWithin, MayBegin};
+ghost use Rattle.lr_steps.specs.World.{first_state, first_world, force_of, operator, operator_connection, replied_at, shown, next, deeds_of_event};
 ghost use Rattle.lr_world.specs.World.{AllBegun, world_of, world_with};
 
 use crate::call::call;
 use crate::requests::Requests;
 use crate::rows::{ask, begin, exec, take};
 use lr_limits::LAST_MOMENT;
-use lr_model::{Event, Shown, ThreadId};
 use lr_names::Name;
-use lr_objects::Op;
+use lr_objects::{Call, LockCall, Op};
 use lr_server::{History, ServerState};
+use lr_steps::{Event, Shown, ThreadId};
 use std::alloc::{AllocError, Global};
 use std::marker::Model;
 
@@ -162,14 +161,17 @@ fn force(server: &mut ServerState, name: Name, moment: u64) -> Result<Shown, All
     requires early { moment ≤ last_moment }
     ensures shown { IfOk result (λ s. s
         ≡ shows.Replied
-        (replied_at (after first_state server.old.entries) moment (LockForce name))) }
+        (replied_at (after first_state server.old.entries) moment (force_of name))) }
     ensures entry { OnOk result (server.new.entries
         ≡ server.old.entries
-        ++ call_entry moment operator operator_connection (LockForce name) ∷ []) }
+        ++ call_entry moment operator operator_connection (force_of name) ∷ []) }
     ensures last { server.new.last ≡ server.old.last }
     ensures err { OnErr result (server.new ≡ server.old) }
 {
-    let op = Op::LockForce { name };
+    let op = Op {
+        name,
+        call: Call::Lock(LockCall::Force),
+    };
     let replied = call(server, moment, OPERATOR, OPERATOR_CONNECTION, &op)?;
     Ok(Shown::Replied(replied))
 }

@@ -1,6 +1,6 @@
 use Rattle.std.proofs.Common.{◌≡◌, ℕ, List, [], Option, Some, refl, arith, ap, ◌∙◌, subst, sym}
 use Rattle.lr_outside.specs.Lines.{ahead}
-use Rattle.lr_model.specs.World.{first_world}
+use Rattle.lr_steps.specs.World.{first_world}
 use Rattle.lr_world.specs.World.{WorldValue, world_of}
 use Rattle.lr_play.specs.Progress.{IsAt, Progress}
 use Rattle.lr_play.proofs.Progress.{start, nothing_written}

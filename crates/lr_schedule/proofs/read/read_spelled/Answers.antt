@@ -1,6 +1,6 @@
 use Rattle.std.proofs.Common.{refl, sym, ap, subst, ◌∙◌, append-nil}
 use Rattle.lr_text.specs.Words.{words_of, joined}
-use Rattle.lr_model.specs.EventText.{event_words, IsEvent}
+use Rattle.lr_steps.specs.EventText.{event_words, IsEvent}
 use Rattle.lr_schedule.specs.Spelled.{event_of}
 use Rattle.lr_schedule.proofs.EventLaws.{words_of-event_text, spelled_of}
 use Rattle.lr_schedule.proofs.read.read_spelled.Goals as goal

@@ -1,5 +1,5 @@
 use Rattle.std.proofs.Common.{refl, sym, ◌∙◌, append-nil}
-use Rattle.lr_model.specs.EventText.{event_words}
+use Rattle.lr_steps.specs.EventText.{event_words}
 use Rattle.lr_schedule.specs.Spelled.{event_of}
 use Rattle.lr_schedule.proofs.EventLaws.{event_words-whole}
 use Rattle.lr_schedule.proofs.read.read_words.Goals as goal

@@ -1,6 +1,6 @@
 use Rattle.std.proofs.Common.{List, Some, if◌then◌else◌, ◌∙◌, ap}
-use Rattle.lr_model.specs.declared.waiter.ThreadId.{ThreadId}
-use Rattle.lr_model.specs.declared.waiter.Waiter.{Waiter}
+use Rattle.lr_steps.specs.declared.waiter.ThreadId.{ThreadId}
+use Rattle.lr_steps.specs.declared.waiter.Waiter.{Waiter}
 use Rattle.lr_world.specs.Requests.{same_thread, request_of}
 use Rattle.lr_world.proofs.Clients.{clients_changed}
 use Rattle.lr_world.proofs.requests.Requests.add.Goals as goal

@@ -1,7 +1,9 @@
 use Rattle.std.proofs.Common.{◌≤◌, ◌+◌, ◌++◌, length, sym, ap, subst, ◌∙◌, arith}
-use Rattle.lr_model.specs.Sound.{IsInOrder}
-use Rattle.lr_model.specs.World.{World, deeds_of, deeds_of_event}
-use Rattle.lr_laws.proofs.Worlds.{InOrder, InOrder-next, IsSound-from_order, deeds_of-next, length-next}
+use Rattle.lr_steps.specs.Sound.{IsInOrder}
+use Rattle.lr_steps.specs.World.{World, deeds_of_event}
+use Rattle.lr_model.specs.History.{deeds_of}
+use Rattle.lr_laws.proofs.KindTable.{IsSound-from_order}
+use Rattle.lr_laws.proofs.Worlds.{InOrder, InOrder-next, deeds_of-next, length-next}
 use Rattle.lr_server.specs.Server.{ServerValue}
 use Rattle.lr_world.specs.World.{AllBegun, WorldValue, world_of, world_with}
 use Rattle.lr_world.proofs.Begun.{next-begun}

@@ -1,6 +1,6 @@
 use Rattle.std.proofs.Common.{List, [], ap, ◌∙◌}
-use Rattle.lr_model.specs.declared.waiter.ThreadId.{ThreadId}
-use Rattle.lr_model.specs.declared.waiter.Waiter.{Waiter}
+use Rattle.lr_steps.specs.declared.waiter.ThreadId.{ThreadId}
+use Rattle.lr_steps.specs.declared.waiter.Waiter.{Waiter}
 use Rattle.lr_server.specs.Server.{ServerValue}
 use Rattle.lr_world.specs.World.{world_with}
 use Rattle.lr_world.proofs.world.World.new.Goals as goal
