@@ -24,6 +24,7 @@ from program import must_be_built, processor_seconds
 KINDS = {
     "reentrant lock": (("lock_try", LEASE), ("lock_try", LEASE), ("lock_unlock", LEASE)),
     "fenced lock": (("fenced_try", LEASE), ("fenced_try", LEASE), ("fenced_unlock", LEASE)),
+    "read-write lock": (("rw_read", LEASE), ("rw_read", LEASE), ("rw_unlock_read", LEASE)),
     "semaphore": (("sem_set", 5), ("sem_try", 1), ("sem_release", 1)),
     "countdown latch": (("latch_set", 1_000_000_000), ("latch_down",), ("latch_count",)),
 }
