@@ -195,7 +195,7 @@ fn is_full(alloc: Global, keys: &mut KeySpace, name: &Name, one: &Owner) -> bool
 fn numbered(number: usize) -> Brief {
     let mut text = Brief::new();
     text.push_bytes(b"r:");
-    text.push_bytes(&(number as u32).to_be_bytes());
+    text.push_bytes(&(number as u64).to_be_bytes());
     text
 }
 
