@@ -19,6 +19,7 @@ use Rattle.lr_laws.proofs.ReadWriteLocks.{read_write_law}
 use Rattle.lr_laws.proofs.FencedLocks.{fenced_law}
 use Rattle.lr_laws.proofs.Tokens.{tokens_grow}
 use Rattle.lr_laws.proofs.Semaphores.{never_overgranted}
+use Rattle.lr_laws.proofs.Permits.{never_more_than_set}
 use Rattle.lr_laws.proofs.Latches.{counts_down}
 
 -- The law of the claims of each kind. The last line is for those on whose objects no call takes a
@@ -50,5 +51,6 @@ IsSound-from_order world order = record {
   exclusive = no_conflict 128 world.entries order.legal;
   tokens = tokens_grow 128 world.entries order.legal;
   permits = never_overgranted 128 world.entries;
+  leases = never_more_than_set 128 world.entries order.legal;
   counts = counts_down 128 world.entries;
 }

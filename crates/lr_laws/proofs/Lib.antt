@@ -15,6 +15,7 @@ pub mod Conflicts
 pub mod Fronts
 pub mod ToldLaws
 pub mod Semaphores
+pub mod Permits
 pub mod Latches
 pub mod FencedTokens
 pub mod Tokens

@@ -5,6 +5,7 @@
 mod countdown_laws;
 mod fenced_laws;
 mod laws;
+mod permit_laws;
 mod semaphore_laws;
 
 pub use countdown_laws::latches_count_down;
@@ -12,4 +13,5 @@ pub use fenced_laws::tokens_strictly_grow;
 pub use laws::{
     every_schedule_goes_well, every_schedule_goes_well_throughout, tenures_never_conflict,
 };
+pub use permit_laws::no_more_permits_are_live_than_were_set;
 pub use semaphore_laws::semaphores_never_grant_more_than_there_is;

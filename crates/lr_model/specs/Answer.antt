@@ -15,6 +15,7 @@ use Rattle.lr_model.specs.Mutex.{lock_call, lock_concern}
 use Rattle.lr_model.specs.ReadWrite.{ReadWriteLock, read_write_call, read_write_concern}
 use Rattle.lr_model.specs.Fenced.{FencedLock, new_fenced_lock, fenced_call, fenced_concern}
 use Rattle.lr_model.specs.Semaphore.{semaphore_call}
+use Rattle.lr_model.specs.Permits.{Permits, unset_permits, permit_call}
 use Rattle.lr_model.specs.Countdown.{countdown_call}
 
 -- the objects by their names, a table for each kind
@@ -23,6 +24,7 @@ pub record Objects : Type 0 where
   pub read_write_locks : List ℕ → ReadWriteLock
   pub fenced_locks : List ℕ → FencedLock
   pub semaphores : List ℕ → Option ℕ
+  pub permits : List ℕ → Permits
   pub countdowns : List ℕ → ℕ
 
 -- before the first call there is no object
@@ -32,6 +34,7 @@ no_objects = record {
   read_write_locks = λ name. [];
   fenced_locks = λ name. new_fenced_lock;
   semaphores = λ name. None;
+  permits = λ name. unset_permits;
   countdowns = λ name. 0;
 }
 
@@ -66,6 +69,9 @@ answer_call objects moment name (calls.Fenced call) =
 answer_call objects moment name (calls.Semaphore call) =
     on_object objects.semaphores (λ table. record objects { semaphores = table }) name
     (semaphore_call name call)
+answer_call objects moment name (calls.Permits call) =
+    on_object objects.permits (λ table. record objects { permits = table }) name
+    (permit_call name moment call)
 answer_call objects moment name (calls.Countdown call) =
     on_object objects.countdowns (λ table. record objects { countdowns = table }) name
     (countdown_call name call)

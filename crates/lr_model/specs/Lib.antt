@@ -8,6 +8,7 @@ pub mod Fenced
 pub mod ReadWrite
 pub mod ReadWriteHolds
 pub mod Semaphore
+pub mod Permits
 pub mod Countdown
 pub mod Answer
 pub mod Board
@@ -16,5 +17,6 @@ pub mod Tenure
 pub mod Told
 pub mod Tokens
 pub mod SemaphoreCounts
+pub mod PermitCounts
 pub mod CountdownCounts
 pub mod Values

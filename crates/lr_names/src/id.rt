@@ -1,6 +1,7 @@
-ghost use Rattle.std.specs.Prelude.{◌≡◌, ◌≢◌, ◌↔◌, ◌<◌, ℕ, List, All, IsTrue, IsNone, IfSome};
+ghost use Rattle.std.specs.Prelude.{◌≡◌, ◌≢◌, ◌↔◌, ◌<◌, ℕ, List, length, All, IsTrue, IsNone, IfSome};
 ghost use Rattle.lr_names.specs.Owner.{IsId, id_text};
 
+use lr_text::Brief;
 use uuid::Uuid;
 
 /// The length of an id's text, in bytes.
@@ -18,7 +19,7 @@ pub fn read_id(text: &[u8]) -> Option<Uuid>
     if !is_written(&id, text) {
         return None;
     }
-    id_fits(id.as_bytes());
+    check_id(&id);
     Some(id)
 }
 
@@ -29,8 +30,28 @@ fn is_written(id: &Uuid, text: &[u8]) -> bool
     id.hyphenated().encode_lower(&mut buffer).as_bytes() == text
 }
 
+/// The text of an id: its hyphenated lower-case form, 36 bytes.
+pub fn id_brief(id: &Uuid) -> Brief
+    ensures text { result ≡ id_text id.now }
+    ensures long { length result ≡ 36 }
+    ensures id { IsId id.now }
+{
+    check_id(id);
+    let mut buffer = [0; ID_BYTES];
+    let mut text = Brief::new();
+    text.push_bytes(id.hyphenated().encode_lower(&mut buffer).as_bytes());
+    text
+}
+
+/// What the type of an id says of it: nothing is done here.
+pub fn check_id(id: &Uuid)
+    ensures { IsId id.now }
+{
+    id_fits(id.as_bytes());
+}
+
 // What the type of an id says, which no clause can say of an array.
-pub(crate) fn id_fits(id: &[u8; 16])
+fn id_fits(id: &[u8; 16])
     ensures { IsId id.now }
 {
     bytes_fit(id.as_slice());

@@ -12,7 +12,7 @@ mod post;
 mod tests;
 
 pub use channel::{Channel, ChannelFault};
-pub use id::read_id;
+pub use id::{check_id, id_brief, read_id};
 pub use kind::{Kind, Wakes};
 pub use name::{Name, NameFault};
 pub use owner::{Owner, OwnerFault};

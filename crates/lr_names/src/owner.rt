@@ -1,7 +1,7 @@
 ghost use Rattle.std.specs.Prelude.{◌≡◌, ◌≢◌, ◌↔◌, ◌<◌, ◌≤◌, ℕ, List, length, All, decimal, Some, IsTrue, IsErr, IsNone, IfOk, IfSome};
 ghost use Rattle.lr_names.specs.Owner.{ThreadOfClient, IsThread, IsId, IsOwner, id_text, owner_text};
 
-use crate::id::{ID_BYTES, id_fits, read_id};
+use crate::id::{check_id, id_brief, read_id};
 use itoa::Buffer;
 use lr_limits::MOST_THREADS;
 use lr_text::{Brief, read_number, split_once};
@@ -59,7 +59,7 @@ impl Owner {
         ensures value { result ≡ self.now.client }
         ensures owner { IsOwner self.now }
     {
-        id_fits(self.client.as_bytes());
+        check_id(&self.client);
         self.client
     }
 
@@ -87,10 +87,8 @@ impl Owner {
         ensures text { result ≡ owner_text self.now }
         ensures owner { IsOwner self.now }
     {
-        let mut id = [0; ID_BYTES];
         let mut digits = Buffer::new();
-        let mut text = Brief::new();
-        text.push_bytes(self.client().hyphenated().encode_lower(&mut id).as_bytes());
+        let mut text = id_brief(&self.client());
         text.push_bytes(b":");
         text.push_bytes(digits.format(self.thread()).as_bytes());
         text

@@ -11,6 +11,7 @@ use Rattle.lr_objects.specs.declared.lock.LockFunction.TheVariants as lock
 use Rattle.lr_objects.specs.declared.read_write.ReadWriteFunction.TheVariants as read_write
 use Rattle.lr_objects.specs.declared.fenced.FencedFunction.TheVariants as fenced
 use Rattle.lr_objects.specs.declared.semaphore.SemaphoreFunction.TheVariants as semaphore
+use Rattle.lr_objects.specs.declared.permits.PermitFunction.TheVariants as permits
 use Rattle.lr_objects.specs.declared.countdown.CountdownFunction.TheVariants as countdown
 
 -- a function is found by its word, which is short and has no space
@@ -25,6 +26,7 @@ has_word (kinds.Lock lock.Try) = (refl, refl, omega arith)
 has_word (kinds.ReadWrite read_write.Read) = (refl, refl, omega arith)
 has_word (kinds.Fenced fenced.Try) = (refl, refl, omega arith)
 has_word (kinds.Semaphore semaphore.Set) = (refl, refl, omega arith)
+has_word (kinds.Permits permits.Set) = (refl, refl, omega arith)
 has_word (kinds.Countdown countdown.Set) = (refl, refl, omega arith)
 has_word _ = (refl, refl, omega arith)
 

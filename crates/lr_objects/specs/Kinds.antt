@@ -14,6 +14,7 @@ use Rattle.lr_objects.specs.LockCalls.{lock_form, lock_call_of, IsLockCall}
 use Rattle.lr_objects.specs.ReadWriteCalls.{read_write_form, read_write_call_of, IsReadWriteCall}
 use Rattle.lr_objects.specs.FencedCalls.{fenced_form, fenced_call_of, IsFencedCall}
 use Rattle.lr_objects.specs.SemaphoreCalls.{semaphore_form, semaphore_call_of, IsSemaphoreCall}
+use Rattle.lr_objects.specs.PermitCalls.{permit_form, permit_call_of, IsPermitCall}
 use Rattle.lr_objects.specs.CountdownCalls.{countdown_form, countdown_call_of, IsCountdownCall}
 
 -- how a function is written and used
@@ -22,6 +23,7 @@ form_of (functions.Lock function) = lock_form function
 form_of (functions.ReadWrite function) = read_write_form function
 form_of (functions.Fenced function) = fenced_form function
 form_of (functions.Semaphore function) = semaphore_form function
+form_of (functions.Permits function) = permit_form function
 form_of (functions.Countdown function) = countdown_form function
 
 -- the call of a function for a want, with the owner and the lease in their places
@@ -32,6 +34,8 @@ call_of (functions.ReadWrite f) want owner lease queue =
 call_of (functions.Fenced f) want owner lease queue = calls.Fenced (fenced_call_of f owner lease)
 call_of (functions.Semaphore f) want owner lease queue =
     calls.Semaphore (semaphore_call_of f want.number)
+call_of (functions.Permits f) want owner lease queue =
+    calls.Permits (permit_call_of f want.number want.id lease)
 call_of (functions.Countdown f) want owner lease queue =
     calls.Countdown (countdown_call_of f want.number)
 
@@ -41,12 +45,14 @@ call_kind (calls.Lock call) = kinds.Mutex
 call_kind (calls.ReadWrite call) = kinds.Rw
 call_kind (calls.Fenced call) = kinds.Fenced
 call_kind (calls.Semaphore call) = kinds.Semaphore
+call_kind (calls.Permits call) = kinds.Permits
 call_kind (calls.Countdown call) = kinds.Countdown
 
--- a call as the program makes it: its owner and its number are such
+-- a call as the program makes it: its owner, its number and its id are such
 abbrev pub IsCallOfKind : Call → Type 0
 IsCallOfKind (calls.Lock call) = IsLockCall call
 IsCallOfKind (calls.ReadWrite call) = IsReadWriteCall call
 IsCallOfKind (calls.Fenced call) = IsFencedCall call
 IsCallOfKind (calls.Semaphore call) = IsSemaphoreCall call
+IsCallOfKind (calls.Permits call) = IsPermitCall call
 IsCallOfKind (calls.Countdown call) = IsCountdownCall call

@@ -4,6 +4,7 @@ pub mod LockCalls
 pub mod ReadWriteCalls
 pub mod FencedCalls
 pub mod SemaphoreCalls
+pub mod PermitCalls
 pub mod CountdownCalls
 pub mod Kinds
 pub mod Function

@@ -28,6 +28,6 @@ queue_owner _ = None
 abbrev pub channel_of : Op → ChannelOf
 channel_of op = record { kind = kind_of op; name = name_of op; owner = queue_owner op }
 
--- a call as the program makes it: what it names, its owner and its number are such
+-- a call as the program makes it: what it names, its owner, its number and its id are such
 abbrev pub IsCall : Op → Type 0
 IsCall op = IsName op.name × IsCallOfKind op.call

@@ -4,7 +4,7 @@ use Rattle.lr_objects.specs.declared.kinds.Function.{Function}
 use Rattle.lr_objects.specs.declared.kinds.Function.TheVariants.{Countdown}
 use Rattle.lr_objects.specs.declared.countdown.CountdownFunction.TheVariants as latch
 use Rattle.lr_objects.specs.declared.reply.Reply.{Reply}
-use Rattle.lr_objects.specs.declared.reply.Reply.TheVariants.{Granted, Busy, Kept, Freed, NotHeld, Renewed, Lost, TooDeep, BadLease, GrantedToken, Short, Set, AlreadySet, Count, TooMany, TokensSpent}
+use Rattle.lr_objects.specs.declared.reply.Reply.TheVariants.{Granted, Busy, Kept, Freed, NotHeld, Renewed, Lost, TooDeep, BadLease, GrantedToken, Short, Set, AlreadySet, Count, Unknown, TooMany, TokensSpent}
 
 -- whether the one who asked has to wait: where another has the object, where there are too few
 -- permits, and where a latch that is asked for its count isn't at 0
@@ -47,6 +47,7 @@ reply_word Short = codes "short"
 reply_word Set = codes "set"
 reply_word AlreadySet = codes "already-set"
 reply_word (Count count) = codes "count"
+reply_word Unknown = codes "unknown"
 reply_word TooMany = codes "too-many"
 reply_word TokensSpent = codes "tokens-spent"
 

@@ -9,6 +9,7 @@ use crate::countdown::{CountdownCall, CountdownFunction};
 use crate::fenced::{FencedCall, FencedFunction};
 use crate::form::Form;
 use crate::lock::{LockCall, LockFunction};
+use crate::permits::{PermitCall, PermitFunction};
 use crate::read_write::{ReadWriteCall, ReadWriteFunction};
 use crate::semaphore::{SemaphoreCall, SemaphoreFunction};
 use crate::want::Want;
@@ -25,6 +26,8 @@ pub enum Function {
     Fenced(FencedFunction),
     /// Of a semaphore.
     Semaphore(SemaphoreFunction),
+    /// Of expirable permits.
+    Permits(PermitFunction),
     /// Of a countdown latch.
     Countdown(CountdownFunction),
 }
@@ -40,13 +43,15 @@ pub enum Call {
     Fenced(FencedCall),
     /// On a semaphore.
     Semaphore(SemaphoreCall),
+    /// On expirable permits.
+    Permits(PermitCall),
     /// On a countdown latch.
     Countdown(CountdownCall),
 }
 
 impl Function {
     /// All functions.
-    pub const ALL: [Function; 20] = [
+    pub const ALL: [Function; 24] = [
         Function::Lock(LockFunction::Try),
         Function::Lock(LockFunction::Unlock),
         Function::Lock(LockFunction::Renew),
@@ -64,6 +69,10 @@ impl Function {
         Function::Semaphore(SemaphoreFunction::Try),
         Function::Semaphore(SemaphoreFunction::Release),
         Function::Semaphore(SemaphoreFunction::Count),
+        Function::Permits(PermitFunction::Set),
+        Function::Permits(PermitFunction::Try),
+        Function::Permits(PermitFunction::Release),
+        Function::Permits(PermitFunction::Count),
         Function::Countdown(CountdownFunction::Set),
         Function::Countdown(CountdownFunction::Down),
         Function::Countdown(CountdownFunction::Count),
@@ -78,6 +87,7 @@ impl Function {
             Function::ReadWrite(function) => function.form(),
             Function::Fenced(function) => function.form(),
             Function::Semaphore(function) => function.form(),
+            Function::Permits(function) => function.form(),
             Function::Countdown(function) => function.form(),
         }
     }
@@ -94,6 +104,7 @@ impl Function {
             Function::ReadWrite(function) => Call::ReadWrite(function.call(owner, lease)),
             Function::Fenced(function) => Call::Fenced(function.call(owner, lease)),
             Function::Semaphore(function) => Call::Semaphore(function.call(want.number)),
+            Function::Permits(function) => Call::Permits(function.call(want.number, want.id, lease)),
             Function::Countdown(function) => Call::Countdown(function.call(want.number)),
         }
     }
@@ -109,6 +120,7 @@ impl Call {
             Call::ReadWrite(_) => Kind::Rw,
             Call::Fenced(_) => Kind::Fenced,
             Call::Semaphore(_) => Kind::Semaphore,
+            Call::Permits(_) => Kind::Permits,
             Call::Countdown(_) => Kind::Countdown,
         }
     }
@@ -122,6 +134,7 @@ impl Call {
             Call::ReadWrite(call) => call.check(),
             Call::Fenced(call) => call.check(),
             Call::Semaphore(call) => call.check(),
+            Call::Permits(call) => call.check(),
             Call::Countdown(call) => call.check(),
         }
     }

@@ -110,7 +110,9 @@ pub enum Reply {
     AlreadySet,
     /// So many there are now: permits, counts, or tokens that were given out.
     Count(Integer),
-    /// There would be more than 1,000,000,000 permits.
+    /// There is nothing of this id.
+    Unknown,
+    /// There would be more than there may be: permits of a semaphore, or holds or leases of an object.
     TooMany,
     /// The lock has given out its last token.
     TokensSpent,
@@ -137,6 +139,7 @@ impl Reply {
             Reply::Set => b"set",
             Reply::AlreadySet => b"already-set",
             Reply::Count(_) => b"count",
+            Reply::Unknown => b"unknown",
             Reply::TooMany => b"too-many",
             Reply::TokensSpent => b"tokens-spent",
         }

@@ -6,6 +6,7 @@ use Rattle.lr_model.specs.History.{IsLegal, after, deeds_of, deeds_by}
 use Rattle.lr_model.specs.Tenure.{NoConflict}
 use Rattle.lr_model.specs.Tokens.{TokensGrow}
 use Rattle.lr_model.specs.SemaphoreCounts.{NeverOvergranted}
+use Rattle.lr_model.specs.PermitCounts.{NeverMoreThanSet}
 use Rattle.lr_model.specs.CountdownCounts.{CountsDown}
 use Rattle.lr_steps.specs.World.{World, first_state, state_of, deeds_made, world_after, first_world}
 
@@ -18,13 +19,14 @@ pub record IsInOrder (entries : List Entry) (moment : ℕ) : Type 0 where
 
 -- The history of a world is legal, time hasn't gone back behind its last entry, and no two claims
 -- that conflict are held at once. Tokens strictly grow, of no semaphore more was granted than there
--- was, and latches count down.
+-- was, of no expirable permits more are live at once than were set, and latches count down.
 pub record IsSound (world : World) : Type 0 where
   pub legal : IsLegal first_state world.entries
   pub in_time : (state_of world).moment ≤ world.moment
   pub exclusive : NoConflict first_state world.entries
   pub tokens : TokensGrow first_state world.entries
   pub permits : NeverOvergranted first_state world.entries
+  pub leases : NeverMoreThanSet first_state world.entries
   pub counts : CountsDown first_state world.entries
 
 -- After these events the world is sound, and what each caller did stands in its history once, in
