@@ -1,0 +1,4 @@
+pub mod Leases
+pub mod Stands
+pub mod Step
+pub mod Run
