@@ -181,6 +181,62 @@ const SEMAPHORES: [Step; 9] = [
     Step::Do(1, "sem_count u", "count 0", "count 0"),
 ];
 
+const EXPIRABLE_PERMITS: [Step; 13] = [
+    Step::Do(
+        1,
+        "permit_try p 00000000-0000-0000-0000-000000000001 1000",
+        "short",
+        "short",
+    ),
+    Step::Do(1, "permit_set p 1", "set post ch:permits:p 0", "set"),
+    Step::Do(
+        1,
+        "permit_try p 00000000-0000-0000-0000-000000000001 1000",
+        "granted",
+        "granted",
+    ),
+    Step::Do(
+        1,
+        "permit_try p 00000000-0000-0000-0000-000000000001 1000",
+        "already-set",
+        "already-set",
+    ),
+    Step::Do(
+        2,
+        "permit_try p 00000000-0000-0000-0000-000000000002 1000",
+        "busy 1000",
+        "busy 1000",
+    ),
+    Step::Line("tick 1000", "moment 1000"),
+    Step::Do(
+        1,
+        "permit_release p 00000000-0000-0000-0000-000000000001",
+        "unknown",
+        "unknown",
+    ),
+    Step::Do(1, "permit_count p", "count 1", "count 1"),
+    Step::Do(
+        2,
+        "permit_try p 00000000-0000-0000-0000-000000000002 0",
+        "bad-lease",
+        "bad-lease",
+    ),
+    Step::Do(
+        2,
+        "permit_try p 00000000-0000-0000-0000-000000000002 1000",
+        "granted",
+        "granted",
+    ),
+    Step::Do(1, "permit_count p", "count 0", "count 0"),
+    Step::Do(
+        1,
+        "permit_release p 00000000-0000-0000-0000-000000000002",
+        "freed post ch:permits:p 0",
+        "freed",
+    ),
+    Step::Do(1, "permit_set p 4", "already-set", "already-set"),
+];
+
 const LATCHES: [Step; 5] = [
     Step::Do(1, "latch_set l 1", "set", "set"),
     Step::Do(1, "latch_set l 2", "already-set", "already-set"),
@@ -313,6 +369,12 @@ fn tokens_grow(rt: HostRuntime) -> Result<(), Fail> {
 #[test]
 fn readers_keep_a_writer_out(rt: HostRuntime) -> Result<(), Fail> {
     assert!(rt; is_shown(rt.alloc(), &READ_WRITE_LOCKS)?);
+    Ok(())
+}
+
+#[test]
+fn permits_come_back_by_themselves(rt: HostRuntime) -> Result<(), Fail> {
+    assert!(rt; is_shown(rt.alloc(), &EXPIRABLE_PERMITS)?);
     Ok(())
 }
 

@@ -27,7 +27,8 @@ A schedule has one event on each line, as words with single spaces between them:
   force NAME an operator takes the lock away from whoever holds it.
 
 A FUNCTION is called with the NAME of an object (letters, digits, _, . and -), and, as is shown
-here, a LEASE in milliseconds, or a number N from 1 to 1000000000. These work today:
+here, a LEASE in milliseconds, a number N from 1 to 1000000000, or an ID, a UUID. These work
+today:
 
   lock_try NAME LEASE       takes the lock for LEASE, where it is free or the thread holds it.
   lock_unlock NAME LEASE    gives a hold back. Where more are left, they last for LEASE from now.
@@ -43,6 +44,10 @@ here, a LEASE in milliseconds, or a number N from 1 to 1000000000. These work to
   sem_try NAME N            takes N permits, where so many are free.
   sem_release NAME N        gives N permits back, or adds them.
   sem_count NAME            tells how many are free.
+  permit_set NAME N         gives NAME N permits that expire, where it has no number yet.
+  permit_try NAME ID LEASE  takes a permit under ID for LEASE, where one is free.
+  permit_release NAME ID    gives back the permit that was taken under ID.
+  permit_count NAME         tells how many are free.
   latch_set NAME N          sets the countdown latch to N, where it is at 0.
   latch_down NAME           counts it down by one.
   latch_count NAME          tells its count.

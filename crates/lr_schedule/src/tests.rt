@@ -53,7 +53,8 @@ const REASONS: [(&str, &str); 10] = [
         "begin 1 1 once lock_tyr a 5",
         "\"lock_tyr\" is no function; functions are lock_try, lock_unlock, rw_read, rw_write, \
          rw_unlock_read, rw_unlock_write, fenced_try, fenced_unlock, fenced_token, sem_set, \
-         sem_try, sem_release, sem_count, latch_set, latch_down, latch_count (word 5 of ",
+         sem_try, sem_release, sem_count, permit_set, permit_try, permit_release, permit_count, \
+         latch_set, latch_down, latch_count (word 5 of ",
     ),
     (
         "begin 1 1 once lock_try a! 5",

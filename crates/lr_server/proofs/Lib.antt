@@ -6,6 +6,7 @@ pub mod MutexesStay
 pub mod FencedLocksStay
 pub mod ReadWriteLocksStay
 pub mod SemaphoresStay
+pub mod PermitsStay
 pub mod CountdownsStay
 pub mod Numbers
 pub mod Runs

@@ -15,6 +15,7 @@ use Rattle.lr_mutex.proofs.StandsLaws as mutex_laws
 use Rattle.lr_rw.proofs.StandsLaws as read_write_laws
 use Rattle.lr_fenced.proofs.StandsLaws as fenced_laws
 use Rattle.lr_semaphore.proofs.StandsLaws as semaphore_laws
+use Rattle.lr_expirable.proofs.StandsLaws as permit_laws
 use Rattle.lr_countdown.proofs.StandsLaws as countdown_laws
 use Rattle.lr_server.specs.Stands.{HasNoKeys, KindStands, objects_of}
 use Rattle.lr_server.proofs.KindsLater.{KindGoesOn}
@@ -22,6 +23,7 @@ use Rattle.lr_server.proofs.MutexesStay as mutexes
 use Rattle.lr_server.proofs.ReadWriteLocksStay as read_write_locks
 use Rattle.lr_server.proofs.FencedLocksStay as fenced_locks
 use Rattle.lr_server.proofs.SemaphoresStay as semaphores
+use Rattle.lr_server.proofs.PermitsStay as permits
 use Rattle.lr_server.proofs.CountdownsStay as countdowns
 
 -- a call leaves the objects of all kinds but its own
@@ -32,6 +34,7 @@ others_stay kinds.Mutex _ _ _ (calls.Lock call) apart = absurd (true≢false apa
 others_stay kinds.Rw _ _ _ (calls.ReadWrite call) apart = absurd (true≢false apart)
 others_stay kinds.Fenced _ _ _ (calls.Fenced call) apart = absurd (true≢false apart)
 others_stay kinds.Semaphore _ _ _ (calls.Semaphore call) apart = absurd (true≢false apart)
+others_stay kinds.Permits _ _ _ (calls.Permits call) apart = absurd (true≢false apart)
 others_stay kinds.Countdown _ _ _ (calls.Countdown call) apart = absurd (true≢false apart)
 others_stay _ _ _ _ _ apart = refl
 
@@ -52,6 +55,7 @@ kind_stays kinds.Mutex = mutexes.stay
 kind_stays kinds.Rw = read_write_locks.stay
 kind_stays kinds.Fenced = fenced_locks.stay
 kind_stays kinds.Semaphore = semaphores.stay
+kind_stays kinds.Permits = permits.stay
 kind_stays kinds.Countdown = countdowns.stay
 kind_stays kind = λ old new objects objects2 on same stands. no_keys_later kind old new on stands
 
@@ -62,6 +66,7 @@ kind_without_keys kinds.Mutex keys none = mutex_laws.no_keys_stand keys none
 kind_without_keys kinds.Rw keys none = read_write_laws.no_keys_stand keys none
 kind_without_keys kinds.Fenced keys none = fenced_laws.no_keys_stand keys none
 kind_without_keys kinds.Semaphore keys none = semaphore_laws.no_keys_stand keys none
+kind_without_keys kinds.Permits keys none = permit_laws.no_keys_stand keys none
 kind_without_keys kinds.Countdown keys none = countdown_laws.no_keys_stand keys none
 kind_without_keys kind keys none = record {
   none = λ name key named among. ap (λ (f : List ℕ → Option KeyEntry). f key) none;

@@ -12,11 +12,13 @@ use Rattle.lr_model.specs.declared.hold.Hold.{Hold}
 use Rattle.lr_model.specs.Answer.{Objects}
 use Rattle.lr_model.specs.Fenced.{FencedLock}
 use Rattle.lr_model.specs.History.{State}
+use Rattle.lr_model.specs.Permits.{Permits}
 use Rattle.lr_model.specs.ReadWrite.{ReadWriteLock}
 use Rattle.lr_mutex.specs.Stands.{MutexesStand}
 use Rattle.lr_rw.specs.Stands.{ReadWriteLocksStand}
 use Rattle.lr_fenced.specs.Stands.{FencedLocksStand}
 use Rattle.lr_semaphore.specs.Stands.{SemaphoresStand}
+use Rattle.lr_expirable.specs.Stands.{PermitsStand}
 use Rattle.lr_countdown.specs.Stands.{CountdownsStand}
 use Rattle.lr_pubsub.specs.BoardValue.{BoardValue, board_of}
 
@@ -31,6 +33,7 @@ KindStands kinds.Mutex keys objects = MutexesStand keys objects
 KindStands kinds.Rw keys objects = ReadWriteLocksStand keys objects
 KindStands kinds.Fenced keys objects = FencedLocksStand keys objects
 KindStands kinds.Semaphore keys objects = SemaphoresStand keys objects
+KindStands kinds.Permits keys objects = PermitsStand keys objects
 KindStands kinds.Countdown keys objects = CountdownsStand keys objects
 KindStands kind keys objects = HasNoKeys kind keys
 
@@ -40,6 +43,7 @@ KindObjects kinds.Mutex = List ℕ → Option Hold
 KindObjects kinds.Rw = List ℕ → ReadWriteLock
 KindObjects kinds.Fenced = List ℕ → FencedLock
 KindObjects kinds.Semaphore = List ℕ → Option ℕ
+KindObjects kinds.Permits = List ℕ → Permits
 KindObjects kinds.Countdown = List ℕ → ℕ
 KindObjects _ = Unit {0}
 
@@ -48,6 +52,7 @@ objects_of kinds.Mutex objects = objects.mutexes
 objects_of kinds.Rw objects = objects.read_write_locks
 objects_of kinds.Fenced objects = objects.fenced_locks
 objects_of kinds.Semaphore objects = objects.semaphores
+objects_of kinds.Permits objects = objects.permits
 objects_of kinds.Countdown objects = objects.countdowns
 objects_of _ objects = tt
 

@@ -7,6 +7,7 @@ ghost use Rattle.lr_server.specs.Done.{IsRun};
 mod countdowns;
 mod fenced_locks;
 mod mutexes;
+mod permits;
 mod read_write_locks;
 mod semaphores;
 
@@ -32,6 +33,7 @@ pub(crate) fn run(
         Call::ReadWrite(call) => read_write_locks::run(alloc, keys, moment, name, call),
         Call::Fenced(call) => fenced_locks::run(alloc, keys, moment, name, call),
         Call::Semaphore(call) => semaphores::run(alloc, keys, moment, name, call),
+        Call::Permits(call) => permits::run(alloc, keys, moment, name, call),
         Call::Countdown(call) => countdowns::run(alloc, keys, moment, name, call),
     }
 }
