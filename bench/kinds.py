@@ -20,12 +20,16 @@ import tempfile
 from play import LEASE, MOST_EVENTS, check, thread_of, write_lines
 from program import must_be_built, processor_seconds
 
+# The id under which a permit is taken.
+PERMIT = "00000000-0000-0000-0000-000000000001"
+
 # The request that sets a name up, and the pair of requests, by kind: a function, and the words behind the name.
 KINDS = {
     "reentrant lock": (("lock_try", LEASE), ("lock_try", LEASE), ("lock_unlock", LEASE)),
     "fenced lock": (("fenced_try", LEASE), ("fenced_try", LEASE), ("fenced_unlock", LEASE)),
     "read-write lock": (("rw_read", LEASE), ("rw_read", LEASE), ("rw_unlock_read", LEASE)),
     "semaphore": (("sem_set", 5), ("sem_try", 1), ("sem_release", 1)),
+    "expirable permits": (("permit_set", 5), ("permit_try", PERMIT, LEASE), ("permit_release", PERMIT)),
     "countdown latch": (("latch_set", 1_000_000_000), ("latch_down",), ("latch_count",)),
 }
 FIRST_KIND = "reentrant lock"
@@ -97,7 +101,7 @@ def main():
         )
     for kind in KINDS:
         print(
-            "%-16s %6.2f microseconds a pair over %d names, %.2f times the %s; over %d names %.2f times as much"
+            "%-17s %6.2f microseconds a pair over %d names, %.2f times the %s; over %d names %.2f times as much"
             % (kind, few[kind] * 1e6, options.names[0], few[kind] / few[FIRST_KIND], FIRST_KIND,
                options.names[1], many[kind] / few[kind])
         )

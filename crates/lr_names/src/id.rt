@@ -5,7 +5,7 @@ use lr_text::Brief;
 use uuid::Uuid;
 
 /// The length of an id's text, in bytes.
-pub(crate) const ID_BYTES: usize = 36;
+const ID_BYTES: usize = 36;
 
 /// Reads the id of a client or a permit, in hyphenated lower-case form: `None` exactly where the
 /// text is that of no id.
@@ -26,8 +26,7 @@ pub fn read_id(text: &[u8]) -> Option<Uuid>
 fn is_written(id: &Uuid, text: &[u8]) -> bool
     ensures { IsTrue result ↔ (text.now ≡ id_text id.now) }
 {
-    let mut buffer = [0; ID_BYTES];
-    id.hyphenated().encode_lower(&mut buffer).as_bytes() == text
+    id_brief(id).as_slice() == text
 }
 
 /// The text of an id: its hyphenated lower-case form, 36 bytes.
