@@ -180,6 +180,31 @@ module _ (channel : ChannelOf) (before : Session) where
           ∙ ap (map ticket) (sym (next-passes n is))
       by_given false is = so.given ∙ ap (map ticket) (sym (next-fails n is))
 
+  -- the tickets with one more, where there is one
+  abbrev pub with_ask : Option Ask → List Ask → List Ask
+  with_ask None asks = asks
+  with_ask (Some ask) asks = asks ++ ask ∷ []
+
+  -- the next thread was told, where it is one that joins
+  pub told-next : {n : ℕ} {now : Session} {asks : List Ask} (next : Session) (ask : Option Ask)
+      → AreTold n now asks
+      → next ≡ record now {
+        waiters = put ◌==◌ now.waiters n
+            (ready_if (is_joining channel now n) (next_count now.turn) (now.waiters n));
+        turn = if is_joining channel now n then next_count now.turn else now.turn;
+      }
+      → ask ≡ (if is_joining channel now n then Some (next_ticket n now) else None)
+      → AreTold (n + 1) next (with_ask ask asks)
+  told-next {n} {now} {asks} next ask so is given =
+      subst (AreTold (n + 1) next)
+      (by (is_joining channel now n) ∙ sym (ap (λ a. with_ask a asks) given))
+      (told-more next (is_joining channel now n) so refl is)
+    where
+      by : (b : Bool) → if_told b (next_ticket n now) asks
+          ≡ with_ask (if b then Some (next_ticket n now) else None) asks
+      by true = refl
+      by false = refl
+
   -- all were told
   pub told-all : {now : Session} {asks : List Ask}
       → ((t : ℕ) → thread_limit < t → before.waiters t ≡ None)

@@ -1,5 +1,5 @@
 //! How the threads of a client that wait until it hears a channel are told that it does.
-ghost use Rattle.std.specs.Prelude.{◌≡◌, ◌≤◌, ◌==◌, [], map, Some, None, if◌then◌else◌, vec_capacity};
+ghost use Rattle.std.specs.Prelude.{◌≡◌, ◌<◌, ◌≤◌, ◌^◌, ◌==◌, [], map, Some, None, if◌then◌else◌, vec_capacity};
 ghost use Rattle.lr_limits.specs.Limits.{thread_limit};
 ghost use Rattle.lr_model.specs.Board.{same_channel};
 ghost use Rattle.lr_model.specs.Table.{put};
@@ -65,10 +65,12 @@ impl SessionState {
         is_joining_at(*waiter) && is_same_channel(channel, &self.channel(thread, &waiter.want))
     }
 
-    // What the types say of the requests.
+    // What the types say of the requests and of the last ticket.
     pub(crate) fn check_requests(&self)
-        ensures { AreRequests self.now.waiters }
+        ensures requests { AreRequests self.now.waiters }
+        ensures turn { self.now.turn < 2 ^ 64 }
     {
+        let _turn = self.turn;
         self.waiters.check();
     }
 }

@@ -9,6 +9,8 @@ mod pushes;
 mod requests;
 mod stages;
 mod state;
+#[cfg(test)]
+mod tests;
 mod threads;
 mod waiters;
 mod waits;

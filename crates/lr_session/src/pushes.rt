@@ -101,6 +101,7 @@ impl SessionState {
         ensures { IfOk result (λ threads. threads
             ≡ due_threads moment (session_of self.now)) }
     {
+        self.check_requests();
         let mut due = Vec::new(self.alloc);
         for looked in 0..MOST_THREADS {
             let thread = looked + 1;

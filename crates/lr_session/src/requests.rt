@@ -13,8 +13,8 @@ ghost use Rattle.lr_session.specs.Value.{IsAsking, IsRequest, session_of};
 
 use crate::fault::SessionFault;
 use crate::stages::{
-    asked_at, at_stage, due_after, has_turn, is_watch, joined, may_wait, new_waiter, phase_at, turn_at,
-    waits_for,
+    asked_at, at_stage, due_after, has_turn, is_watch, joined, may_wait, new_waiter, phase_at,
+    turn_at, waits_for,
 };
 use crate::state::SessionState;
 use lr_objects::{Lease, Mode, Op, Reply, Want};

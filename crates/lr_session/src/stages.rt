@@ -63,7 +63,10 @@ pub(crate) fn joined(waiter: Waiter) -> Waiter
     ensures { result ≡ joined waiter }
 {
     let Waiter {
-        mode, want, stage, ..
+        mode,
+        want,
+        stage,
+        ..
     } = waiter;
     Waiter {
         mode,

@@ -33,13 +33,7 @@ impl SessionState {
     }
 
     // A thread whose call was refused sleeps, or may ask once more.
-    fn look(
-        &mut self,
-        thread: u32,
-        waiter: Waiter,
-        refusal: Refusal,
-        moment: u64,
-    ) -> CheckedStep
+    fn look(&mut self, thread: u32, waiter: Waiter, refusal: Refusal, moment: u64) -> CheckedStep
         requires request { IsRequest thread waiter }
         requires begun { (session_of self.old).waiters thread ≡ Some waiter }
         ensures session { let session = session_of self.old in session_of self.new

@@ -12,9 +12,9 @@ returns-in-None-clause-fault c =
     ap (λ (v : SessionValue). waiter_of v.waiters c.args.thread) (sym c.self.view_is)
     ∙ sym c.in-Some.ensures.value in
     record {
-  none = ap (of_waiter (λ w. wake_at c.args.thread session w w.stage)) waiter
-      ∙ ap (wake_at c.args.thread session c.in-Some.waiter) c.in-Some-asleep_at.ensures.stage
-      ∙ c.in-None.ensures.none;
-  found = c.not_now-in-None.ensures
-      ∙ ap (λ (s : Session). NotNow (phase_in s c.args.thread)) c.in-None.ensures.same;
-}
+      none = ap (of_waiter (λ w. wake_at c.args.thread session w w.stage)) waiter
+          ∙ ap (wake_at c.args.thread session c.in-Some.waiter) c.in-Some-asleep_at.ensures.stage
+          ∙ c.in-None.ensures.none;
+      found = c.not_now-in-None.ensures
+          ∙ ap (λ (s : Session). NotNow (phase_in s c.args.thread)) c.in-None.ensures.same;
+    }
