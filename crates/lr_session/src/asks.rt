@@ -77,7 +77,9 @@ impl Model for SpareAsks {
 
 impl SpareAsks {
     /// No memory.
-    pub(crate) fn new(alloc: Global) -> Self {
+    pub(crate) fn new(alloc: Global) -> Self
+        ensures { result ≡ 0 }
+    {
         SpareAsks {
             asks: Vec::new(alloc),
         }

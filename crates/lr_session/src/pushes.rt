@@ -34,7 +34,7 @@ pub enum Pushed {
 
 impl SessionState {
     /// Hands an item on that the server has pushed. `NotNow(Cut)` where the client was cut off;
-    /// else `NoMemory`, but not right after `reserve`. An error changes nothing.
+    /// else `NoMemory`, but not after `reserve`. An error changes nothing.
     pub fn push(&mut self, push: &Push) -> Result<Pushed, SessionFault>
         ensures ok { OnOk result (Some (session_of self.new)
             ≡ push_row push.now (session_of self.old)) }
@@ -57,7 +57,7 @@ impl SessionState {
     }
 
     /// Takes memory for the tickets of one acknowledgement, so that the next `push` doesn't answer
-    /// `NoMemory`. An error changes nothing.
+    /// `NoMemory`, whatever other steps come before it. An error changes nothing.
     pub fn reserve(&mut self) -> Result<(), AllocError>
         ensures ok { OnOk result (thread_limit ≤ self.new.room) }
         ensures session { session_of self.new ≡ session_of self.old }

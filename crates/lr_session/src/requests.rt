@@ -33,6 +33,7 @@ impl SessionState {
         ensures fault { let session = session_of self.old in IfErr result
             (IsFault (begin_row thread mode want.now session) (phase_in session thread)) }
         ensures err { OnErr result (self.new ≡ self.old) }
+        ensures room { self.new.room ≡ self.old.room }
     {
         if self.is_cut {
             return Err(SessionFault::NotNow(Phase::Cut));
@@ -68,6 +69,7 @@ impl SessionState {
         ensures fault { let session = session_of self.old in IfErr result
             (IsNotNow (ask_by ask moment session) (phase_in session ask.thread)) }
         ensures err { OnErr result (self.new ≡ self.old) }
+        ensures room { self.new.room ≡ self.old.room }
     {
         let Some(waiter) = self.waiters.get(ask.thread) else {
             return Err(self.not_now(ask.thread));
@@ -121,6 +123,7 @@ impl SessionState {
         ensures fault { let session = session_of self.old in IfErr result
             (IsFault (take_row thread reply.now session) (phase_in session thread)) }
         ensures err { OnErr result (self.new ≡ self.old) }
+        ensures room { self.new.room ≡ self.old.room }
     {
         let Some(waiter) = self.waiters.get(thread) else {
             return Err(self.not_now(thread));
@@ -147,6 +150,7 @@ impl SessionState {
         ensures told { IfOk result (λ told. told
             ≡ taken_with thread waiter asking.now reply.now (session_of self.old)) }
         ensures err { OnErr result (self.new ≡ self.old) }
+        ensures room { self.new.room ≡ self.old.room }
     {
         if waits_for(reply, &waiter) {
             return self.refuse(thread, waiter, asking, reply);
@@ -171,6 +175,7 @@ impl SessionState {
         ensures told { IfOk result (λ told. told
             ≡ refused_with thread waiter asking.now reply.now (session_of self.old)) }
         ensures err { OnErr result (self.new ≡ self.old) }
+        ensures room { self.new.room ≡ self.old.room }
     {
         if !waiter.registered {
             return self.register(thread, waiter);
@@ -196,6 +201,7 @@ impl SessionState {
             ≡ (if is_subscribed (register_in (entry_for session thread waiter))
             then takes.Ready (next_ticket thread session) else takes.Joining)) }
         ensures err { OnErr result (self.new ≡ self.old) }
+        ensures room { self.new.room ≡ self.old.room }
     {
         let channel = self.channel(thread, &waiter.want);
         let hears = self.latches.register(&channel)?;
@@ -214,6 +220,7 @@ impl SessionState {
         ensures session { session_of self.new
             ≡ with_ticket thread waiter stages.Ready (session_of self.old) }
         ensures ticket { result ≡ next_ticket thread (session_of self.old) }
+        ensures room { self.new.room ≡ self.old.room }
     {
         self.turn = self.turn.wrapping_add(1);
         self.waiters
@@ -227,8 +234,9 @@ impl SessionState {
     // The request of a thread ends, and the thread leaves its channel where it waits on it.
     pub(crate) fn end(&mut self, thread: u32, waiter: &Waiter)
         requires { IsRequest thread waiter.now }
-        ensures { session_of self.new
+        ensures session { session_of self.new
             ≡ without_waiter thread waiter.now (session_of self.old) }
+        ensures room { self.new.room ≡ self.old.room }
     {
         if waiter.registered {
             let channel = self.channel(thread, &waiter.want);

@@ -104,7 +104,8 @@ impl SessionState {
         self.latches.entry(channel)
     }
 
-    /// How many messages have come that wake all who wait on the channel: 0 where nobody waits.
+    /// How many messages have come that wake all who wait on the channel: 0 where the client keeps
+    /// nothing of it.
     pub fn seen(&self, channel: &Channel) -> u64
         ensures { result ≡ ((session_of self.now).latches.entries channel.now).broadcast }
     {
@@ -129,14 +130,16 @@ impl SessionState {
     pub fn next_order(&mut self) -> Option<Order>
         ensures first { result ≡ first_order_of (session_of self.old).latches }
         ensures rest { session_of self.new ≡ order_taken (session_of self.old) }
+        ensures room { self.new.room ≡ self.old.room }
     {
         self.latches.next_order()
     }
 
     /// The client was cut off: its requests, its latches and its orders are gone, and every later
-    /// step is refused. It takes no memory.
+    /// step of a thread is refused. It takes no memory.
     pub fn cut(&mut self)
-        ensures { session_of self.new ≡ cut_session (session_of self.old) }
+        ensures session { session_of self.new ≡ cut_session (session_of self.old) }
+        ensures room { self.new.room ≡ self.old.room }
     {
         self.waiters = Waiters::new(self.alloc);
         self.latches = Latches::new(self.alloc);

@@ -22,6 +22,7 @@ impl SessionState {
         ensures fault { let session = session_of self.old in IfErr result
             (IsNotNow (check_row thread moment session) (phase_in session thread)) }
         ensures err { OnErr result (self.new ≡ self.old) }
+        ensures room { self.new.room ≡ self.old.room }
     {
         let Some(waiter) = self.waiters.get(thread) else {
             return Err(self.not_now(thread));
@@ -42,6 +43,7 @@ impl SessionState {
         ensures told { let session = session_of self.old in result
             ≡ look_with thread refusal session
             (checked_in (entry_for session thread waiter) refusal.seen refusal.due moment) }
+        ensures room { self.new.room ≡ self.old.room }
     {
         let channel = self.channel(thread, &waiter.want);
         match self
@@ -68,6 +70,7 @@ impl SessionState {
         ensures fault { let session = session_of self.old in IfErr result
             (IsNotNow (wake_row thread session) (phase_in session thread)) }
         ensures err { OnErr result (session_of self.new ≡ session_of self.old) }
+        ensures room { self.new.room ≡ self.old.room }
     {
         let Some(waiter) = self.waiters.get(thread) else {
             return Err(self.not_now(thread));
@@ -95,6 +98,7 @@ impl SessionState {
         ensures told { let session = session_of self.old in result
             ≡ wakeup_with thread session
             (woken_in (entry_for session thread waiter) refusal.seen) }
+        ensures room { self.new.room ≡ self.old.room }
     {
         let channel = self.channel(thread, &waiter.want);
         match self.latches.wake(&channel, refusal.seen) {
@@ -113,6 +117,7 @@ impl SessionState {
         ensures fault { let session = session_of self.old in IfErr result
             (IsNotNow (fire_row thread moment session) (phase_in session thread)) }
         ensures err { OnErr result (self.new ≡ self.old) }
+        ensures room { self.new.room ≡ self.old.room }
     {
         let Some(waiter) = self.waiters.get(thread) else {
             return Err(self.not_now(thread));
@@ -135,6 +140,7 @@ impl SessionState {
         ensures fault { let session = session_of self.old in IfErr result
             (IsNotNow (quit_row thread session) (phase_in session thread)) }
         ensures err { OnErr result (self.new ≡ self.old) }
+        ensures room { self.new.room ≡ self.old.room }
     {
         let Some(waiter) = self.waiters.get(thread) else {
             return Err(self.not_now(thread));
