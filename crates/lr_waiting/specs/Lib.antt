@@ -4,3 +4,5 @@ pub mod Session
 pub mod Client
 pub mod Stand
 pub mod Peak
+pub mod Told
+pub mod Begin

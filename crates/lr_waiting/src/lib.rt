@@ -5,10 +5,12 @@
 
 mod latch;
 mod stand;
+mod told;
 mod waiter;
 mod watch;
 
 pub use latch::{Checked, LatchEntry, Order, Woken};
 pub use stand::{Stand, Standing};
+pub use told::{CheckedStep, GaveUp, Taken, WokenStep};
 pub use waiter::{Ask, Asking, Phase, Refusal, Stage, Waiter};
 pub use watch::{Watch, WatchKey, WatchKind};

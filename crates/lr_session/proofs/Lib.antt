@@ -1,0 +1,3 @@
+pub mod ThreadRequests
+pub mod Watches
+pub mod Joined

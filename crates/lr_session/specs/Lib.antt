@@ -1,0 +1,4 @@
+pub mod Value
+pub mod Stages
+pub mod Told
+pub mod Pushed

@@ -1,0 +1,60 @@
+-- What contracts see of the core of a client, and the session of the definitions that it is.
+use Rattle.std.specs.Prelude.{ℕ, ◌≡◌, ◌≤◌, ◌==◌, List, Bool, false, Option, Some, None}
+use Rattle.std.specs.Map.{lookup}
+use Rattle.lr_limits.specs.Limits.{last_moment}
+use Rattle.lr_names.specs.Owner.{IsThread}
+use Rattle.lr_waiting.specs.declared.waiter.Asking.{Asking}
+use Rattle.lr_waiting.specs.declared.waiter.Stage.{Stage}
+use Rattle.lr_waiting.specs.declared.waiter.Stage.TheVariants.{Asked}
+use Rattle.lr_waiting.specs.declared.waiter.Waiter.{Waiter}
+use Rattle.lr_waiting.specs.Begin.{CanBegin}
+use Rattle.lr_waiting.specs.Session.{Session}
+use Rattle.lr_latch.specs.Value.{LatchesValue, latches_of}
+
+-- the client's id, the lease of its watchdog, the requests by their threads, the latches, the last
+-- ticket that was given, whether the client was cut off, and for how many tickets there is room
+pub record SessionValue : Type 0 where
+  pub client : List ℕ
+  pub lease : ℕ
+  pub waiters : List (ℕ × Waiter)
+  pub latches : LatchesValue
+  pub turn : ℕ
+  pub is_cut : Bool
+  pub room : ℕ
+
+-- the request of a thread
+abbrev pub waiter_of : List (ℕ × Waiter) → ℕ → Option Waiter
+waiter_of rows thread = lookup (λ other. thread == other) rows
+
+-- the session that it is: it renews no hold yet
+abbrev pub session_of : SessionValue → Session
+session_of value = record {
+  client = value.client;
+  lease = value.lease;
+  waiters = waiter_of value.waiters;
+  latches = latches_of value.latches;
+  turn = value.turn;
+  watches = λ key. None;
+  generation = 0;
+  is_cut = value.is_cut;
+}
+
+-- a call was sent at a moment that a clock shows, and with a lease that nobody renews
+pub record IsAsking (asking : Asking) : Type 0 where
+  pub early : asking.at ≤ last_moment
+  pub unwatched : asking.watched ≡ false
+
+abbrev pub IsStage : Stage → Type 0
+IsStage (Asked asking) = IsAsking asking
+IsStage _ = Unit {0}
+
+-- a request of a thread of the client, which began with what a request may begin with
+pub record IsRequest (thread : ℕ) (waiter : Waiter) : Type 0 where
+  pub thread_fits : IsThread thread
+  pub begun : CanBegin waiter.mode waiter.want
+  pub sent : IsStage waiter.stage
+
+-- all requests are such
+pub record AreRequests (rows : List (ℕ × Waiter)) : Type 0 where
+  pub at : (thread : ℕ) (waiter : Waiter) → waiter_of rows thread ≡ Some waiter
+      → IsRequest thread waiter

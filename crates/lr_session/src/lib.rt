@@ -1,0 +1,22 @@
+//! The core of a client: the requests of its threads, its latches, and the tickets by which its
+//! threads send their calls. Its steps are the rows of the definitions of waiting.
+#![tactic(auto)]
+
+mod asks;
+mod fault;
+mod joining;
+mod pushes;
+mod requests;
+mod stages;
+mod state;
+#[cfg(test)]
+mod tests;
+mod threads;
+mod waiters;
+mod waits;
+
+pub use asks::Asks;
+pub use fault::SessionFault;
+pub use pushes::Pushed;
+pub use state::SessionState;
+pub use threads::Threads;

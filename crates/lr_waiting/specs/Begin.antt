@@ -1,0 +1,45 @@
+-- What a request may begin with.
+use Rattle.std.specs.Prelude.{◌≡◌, ℕ, ◌≤◌, Bool, true, false}
+use Rattle.lr_limits.specs.Limits.{longest_lease}
+use Rattle.lr_objects.specs.Function.{arguments_of, begins}
+use Rattle.lr_objects.specs.Want.{HasAmount}
+use Rattle.lr_objects.specs.declared.fenced.FencedFunction.{FencedFunction}
+use Rattle.lr_objects.specs.declared.fenced.FencedFunction.TheVariants as fenced
+use Rattle.lr_objects.specs.declared.kinds.Function.{Function}
+use Rattle.lr_objects.specs.declared.kinds.Function.TheVariants as functions
+use Rattle.lr_objects.specs.declared.lock.LockFunction.{LockFunction}
+use Rattle.lr_objects.specs.declared.lock.LockFunction.TheVariants as lock
+use Rattle.lr_objects.specs.declared.want.Lease.TheVariants as leases
+use Rattle.lr_objects.specs.declared.want.Mode.{Mode}
+use Rattle.lr_objects.specs.declared.want.Mode.TheVariants as modes
+use Rattle.lr_objects.specs.declared.want.Want.{Want}
+
+-- whether a request for a function of this kind may wait: to try a lock
+abbrev pub lock_waits : LockFunction → Bool
+lock_waits lock.Try = true
+lock_waits _ = false
+
+abbrev pub fenced_waits : FencedFunction → Bool
+fenced_waits fenced.Try = true
+fenced_waits _ = false
+
+-- whether a request may wait. A further kind whose requests wait adds its line.
+abbrev pub waits : Function → Bool
+waits (functions.Lock function) = lock_waits function
+waits (functions.Fenced function) = fenced_waits function
+waits _ = false
+
+-- a request that may wait is for a function with which one waits, for a thousand days at most
+abbrev pub FitsMode : Mode → Function → Type 0
+FitsMode modes.Once function = Unit {0}
+FitsMode (modes.For millis) function =
+    (waits function ≡ true) × ((1 ≤ millis) × (millis ≤ longest_lease))
+FitsMode modes.Long function = waits function ≡ true
+
+-- what a request may begin with: a function that requests are made for, what that is given, a lease
+-- of a number of milliseconds, and as long a wait as the function has. No lease is renewed yet.
+pub record CanBegin (mode : Mode) (want : Want) : Type 0 where
+  pub function : begins want.function ≡ true
+  pub amount : HasAmount (arguments_of want.function) want
+  pub lease : (millis : ℕ) × (want.lease ≡ leases.For millis)
+  pub wait : FitsMode mode want.function
