@@ -1,0 +1,9 @@
+pub mod Counts
+pub mod Tables
+pub mod Entries
+pub mod Subscriptions
+pub mod ChannelFacts
+pub mod Outstanding
+pub mod Orders
+pub mod Heard
+pub mod Permits
