@@ -1,5 +1,7 @@
-pub mod Counts
 pub mod Tables
+pub mod Counts
+pub mod Threads
+pub mod Registered
 pub mod Entries
 pub mod Subscriptions
 pub mod ChannelFacts

@@ -25,3 +25,13 @@ at_thread P table thread x here there t = by (thread == t) refl
     by : (same : Bool) → (thread == t) ≡ same → P t (if same then x else table t)
     by true e = subst (λ n. P n x) (eqb-true thread t e) here
     by false e = there t (λ same. eqb-false thread t e (sym same))
+
+pub put_here : {X : Type 0} (table : ℕ → X) (thread : ℕ) (x : X)
+    → put ◌==◌ table thread x thread ≡ x
+put_here table thread x =
+    ap (λ b. if b then x else table thread) (eq-eqb thread thread refl)
+
+pub put_there : {X : Type 0} (table : ℕ → X) (thread : ℕ) (x : X) (t : ℕ) → (t ≡ thread → ⊥)
+    → put ◌==◌ table thread x t ≡ table t
+put_there table thread x t apart =
+    ap (λ b. if b then x else table t) (ne_eqb thread t (λ e. apart (sym e)))
