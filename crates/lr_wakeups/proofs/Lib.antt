@@ -1,8 +1,9 @@
 pub mod Tables
 pub mod Counts
 pub mod Threads
-pub mod Registered
 pub mod Entries
+pub mod EntryChanges
+pub mod Registered
 pub mod Subscriptions
 pub mod ChannelFacts
 pub mod Outstanding
