@@ -10,3 +10,5 @@ pub mod Outstanding
 pub mod Orders
 pub mod Heard
 pub mod Permits
+pub mod Joining
+pub mod Answered
