@@ -12,3 +12,4 @@ pub mod Heard
 pub mod Permits
 pub mod Joining
 pub mod Answered
+pub mod Standing
