@@ -13,3 +13,6 @@ pub mod Permits
 pub mod Joining
 pub mod Answered
 pub mod Standing
+pub mod Joined
+pub mod Relatched
+pub mod LatchFacts

@@ -16,7 +16,7 @@ use Rattle.lr_wakeups.specs.Orders.{OrdersMatch, LeadsTo, TurnsOver, is_wanted}
 use Rattle.lr_wakeups.proofs.Entries.{kept_or_none, acknowledged_by, delivered_by}
 use Rattle.lr_wakeups.proofs.ChannelFacts.{ChannelFact, IsKept, order_for}
 
-abbrev Fact : ChannelFact
+abbrev pub Fact : ChannelFact
 Fact n channel entry orders has outbox = OrdersMatch channel entry orders has
 
 -- what follows after the orders behind the first

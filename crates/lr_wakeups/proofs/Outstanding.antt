@@ -16,7 +16,7 @@ use Rattle.lr_wakeups.proofs.Counts.{count_of-push}
 use Rattle.lr_wakeups.proofs.Entries.{kept_or_none, acknowledged_by, delivered_by}
 use Rattle.lr_wakeups.proofs.ChannelFacts.{ChannelFact, IsKept, order_for}
 
-abbrev Fact : ChannelFact
+abbrev pub Fact : ChannelFact
 Fact n channel entry orders has outbox = IsAccounted n channel entry orders outbox
 
 -- another order at the end

@@ -12,7 +12,7 @@ use Rattle.lr_wakeups.specs.Permits.{IsBounded}
 use Rattle.lr_wakeups.proofs.Entries.{kept_or_none, acknowledged_by, delivered_by}
 use Rattle.lr_wakeups.proofs.ChannelFacts.{ChannelFact, IsKept, order_for}
 
-abbrev Fact : ChannelFact
+abbrev pub Fact : ChannelFact
 Fact n channel entry orders has outbox = IsBounded channel entry
 
 none_bounded : (c : ChannelOf) → IsBounded c no_entry
