@@ -16,3 +16,4 @@ pub mod Standing
 pub mod Joined
 pub mod Relatched
 pub mod LatchFacts
+pub mod ThreadSteps
