@@ -1,15 +1,18 @@
 -- What stands for those who were refused, on a channel where a message wakes one.
-use Rattle.std.specs.Prelude.{◌≡◌, ℕ, ◌<◌, ◌≤◌, Bool, true, false, ◌&&◌, Option, Some, None}
+use Rattle.std.specs.Prelude.{◌≡◌, ℕ, ◌+◌, ◌<◌, ◌≤◌, Bool, true, false, ◌&&◌, Option, Some, None}
 use Rattle.lr_limits.specs.Limits.{thread_limit}
 use Rattle.lr_names.specs.Channel.{ChannelOf, channel_wakes}
 use Rattle.lr_names.specs.declared.kind.Wakes.TheVariants.{One}
 use Rattle.lr_objects.specs.Reply.{blocks}
 use Rattle.lr_objects.specs.declared.kinds.Function.{Function}
 use Rattle.lr_objects.specs.declared.reply.Reply.{Reply}
+use Rattle.lr_objects.specs.declared.reply.Reply.TheVariants.{Busy}
+use Rattle.lr_waiting.specs.declared.waiter.Asking.{Asking}
 use Rattle.lr_waiting.specs.declared.waiter.Stage.{Stage}
 use Rattle.lr_waiting.specs.declared.waiter.Stage.TheVariants.{Asked, Refused, Asleep}
 use Rattle.lr_waiting.specs.declared.waiter.Waiter.{Waiter}
 use Rattle.lr_model.specs.Board.{Connection}
+use Rattle.lr_waiting.specs.Session.{channel_in}
 use Rattle.lr_waiting.specs.Client.{Client, waiter_in}
 use Rattle.lr_waiting.specs.Stand.{waits_at, in_flight, is_awake, due_of}
 
@@ -49,3 +52,12 @@ pub record IsCovered (peak : ℕ) (channel : ChannelOf) (client : Client) (conne
     : Type 0 where
   pub stands : channel_wakes channel.kind ≡ One → (thread : ℕ) → thread ≤ thread_limit
       → is_blocked channel client thread ≡ true → Stands peak channel client connection
+
+-- A reply that refuses a call, on a channel where a message wakes one, tells how long to wait, and
+-- the timer that this gives isn't later than the peak.
+pub record IsInTime (peak : ChannelOf → ℕ) (client : Client) (thread : ℕ) (waiter : Waiter)
+    (asking : Asking) (reply : Reply) : Type 0 where
+  pub timer : channel_wakes (channel_in client.session thread waiter).kind ≡ One
+      → blocks reply waiter.want.function ≡ true
+      → (millis : ℕ) × (reply ≡ Busy millis)
+      × (asking.at + millis ≤ peak (channel_in client.session thread waiter))
