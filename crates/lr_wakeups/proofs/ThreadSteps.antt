@@ -1,0 +1,543 @@
+-- All facts after each step of a thread.
+use Rattle.std.proofs.Common.{◌≡◌, ℕ, suc, ◌+◌, ◌<◌, ◌≤◌, ◌^◌, ◌==◌, List, Bool, true, false, not, ◌&&◌, Option, Some, None, refl, ap, sym, ◌∙◌, subst, arith, if◌then◌else◌}
+use Rattle.std.specs.Option.{option_map}
+use Rattle.std.proofs.lemmas.Bool.{and_parts, false≢true}
+use Rattle.std.proofs.lemmas.Option.{same_Some}
+use Rattle.lr_limits.specs.Limits.{thread_limit}
+use Rattle.lr_names.specs.Channel.{ChannelOf, channel_wakes}
+use Rattle.lr_names.specs.declared.kind.Wakes.TheVariants.{One}
+use Rattle.lr_objects.specs.Reply.{blocks}
+use Rattle.lr_objects.specs.declared.reply.Reply.{Reply}
+use Rattle.lr_objects.specs.declared.reply.Reply.TheVariants as replies
+use Rattle.lr_objects.specs.declared.want.Mode.{Mode}
+use Rattle.lr_objects.specs.declared.want.Want.{Want}
+use Rattle.lr_waiting.specs.declared.latch.Checked.{Checked}
+use Rattle.lr_waiting.specs.declared.latch.Checked.TheVariants as checks
+use Rattle.lr_waiting.specs.declared.latch.LatchEntry.{LatchEntry}
+use Rattle.lr_waiting.specs.declared.latch.Woken.{Woken}
+use Rattle.lr_waiting.specs.declared.latch.Woken.TheVariants as wakings
+use Rattle.lr_waiting.specs.declared.waiter.Asking.{Asking}
+use Rattle.lr_waiting.specs.declared.waiter.Refusal.{Refusal}
+use Rattle.lr_waiting.specs.declared.waiter.Stage.{Stage}
+use Rattle.lr_waiting.specs.declared.waiter.Stage.TheVariants.{Fresh, Asked, Joining, Ready, Refused, Asleep, Leaving}
+use Rattle.lr_waiting.specs.declared.waiter.Waiter.{Waiter}
+use Rattle.lr_model.specs.Board.{Connection, same_channel}
+use Rattle.lr_waiting.specs.Latch.{Latches, is_subscribed, is_due, next_count, register_in, register_at, leave_in, leave_at, take_permit, take_permit_at, checked_in, woken_in}
+use Rattle.lr_waiting.specs.Session.{Session, at_stage, channel_in, entry_for, with_waiter, with_stage, with_latches, with_ticket, is_joining_at, new_waiter, due_after, asking_for}
+use Rattle.lr_waiting.specs.Client.{Client, waiter_in, with_reply}
+use Rattle.lr_waiting.specs.Stand.{waits_at, is_awake_at, due_at, due_by_reply}
+use Rattle.lr_wakeups.specs.Registered.{registered_with, is_registered, IsCounted}
+use Rattle.lr_wakeups.specs.Joining.{FitsStage, IsPlaced}
+use Rattle.lr_wakeups.specs.Answered.{asked_with, is_asked_at, HasReplyIfAsked}
+use Rattle.lr_wakeups.specs.Standing.{is_blocked_at, IsCovered, IsInTime}
+use Rattle.lr_wakeups.specs.Facts.{Facts}
+use Rattle.lr_model.proofs.SameChannel.{same_is}
+use Rattle.lr_wakeups.proofs.Tables.{put_here, put_there}
+use Rattle.lr_wakeups.proofs.EntryChanges.{ChangesEntry, entry_put, entry_left, entry_registered, by_channel, permits_registered}
+use Rattle.lr_wakeups.proofs.LatchFacts.{LatchFacts, latch_facts_later, latch_facts_registered, latch_facts_left, latch_facts_permit}
+use Rattle.lr_wakeups.proofs.Threads.{ChangesThread, changes_waiter, changes_both}
+use Rattle.lr_wakeups.proofs.Registered.{count_begun, count_restaged, count_ended, count_left, count_registered}
+use Rattle.lr_wakeups.proofs.Joining.{place_begun, place_ended, placed_was, place_restaged, place_left, place_registered}
+use Rattle.lr_wakeups.proofs.Answered.{answered_changes, no_reply}
+use Rattle.lr_wakeups.proofs.Standing.{cover_begun, cover_awake, cover_kept, cover_answered, cover_ended, cover_left, cover_registered}
+
+-- the facts of the channels among all
+pub latch_facts : (n : ℕ) (peak : ChannelOf → ℕ) (client : Client) (connection : Connection)
+    → Facts n peak client connection → LatchFacts n client.session.latches connection
+latch_facts n peak client connection facts =
+    record { accounted = facts.accounted; matched = facts.matched; bounded = facts.bounded }
+
+module _ (n : ℕ) (peak : ChannelOf → ℕ) (client : Client) (connection : Connection)
+    (facts : Facts n peak client connection) (thread : ℕ) (within : thread ≤ thread_limit) where
+  -- a request begins
+  pub begun : (waiter : Waiter) (turn : ℕ) → waiter_in client thread ≡ None
+      → FitsStage waiter.stage waiter.registered → waiter.registered ≡ false
+      → Facts n peak
+      (record client {
+      session = with_waiter thread (Some waiter) (record client.session { turn = turn });
+      })
+      connection
+  begun waiter turn idle fits outside = record {
+    accounted = facts.accounted;
+    matched = facts.matched;
+    bounded = facts.bounded;
+    counted = λ q.
+        count_begun thread (client.replies thread) client after within waiter changes idle outside q
+        refl (facts.counted q);
+    placed = place_begun thread (client.replies thread) client after within facts.placed waiter
+        changes fits outside (λ q. refl);
+    answered = answered_changes thread (Some waiter) (client.replies thread) client after changes
+        (λ not_asked. (facts.answered thread).without (ap asked_with idle)) facts.answered;
+    covered = λ q.
+        cover_begun thread (client.replies thread) client after within (peak q) q connection waiter
+        changes idle outside refl (facts.covered q);
+  }
+    where
+      after : Client
+      after = record client {
+        session = with_waiter thread (Some waiter) (record client.session { turn = turn });
+      }
+
+      changes : ChangesThread thread (Some waiter) (client.replies thread) client
+          (record client {
+          session = with_waiter thread (Some waiter) (record client.session { turn = turn });
+          })
+      changes = changes_waiter thread (Some waiter) client (record client.session { turn = turn })
+          refl refl
+
+  module _ (waiter : Waiter) (was : waiter_in client thread ≡ Some waiter) where
+    -- its channel and the entry of that
+    abbrev own : ChannelOf
+    own = channel_in client.session thread waiter
+
+    -- A request comes to another stage, in which it doesn't join, and what else is known of it.
+    pub record Restages (stage : Stage) (reply : Option Reply) (after : Client) : Type 0 where
+      pub changes : ChangesThread thread (Some (at_stage stage waiter)) reply client after
+      pub fits : FitsStage stage waiter.registered
+      pub before_ : is_joining_at waiter.stage ≡ false
+      pub then_ : is_joining_at stage ≡ false
+      pub reply_fits : is_asked_at stage ≡ false → reply ≡ None
+
+    pub restaged : (stage : Stage) (reply : Option Reply) (after : Client)
+        → Restages stage reply after
+        → LatchFacts n after.session.latches connection
+        → ((q : ChannelOf) → (after.session.latches.entries q).registered
+        ≡ (client.session.latches.entries q).registered)
+        → ((q : ChannelOf) → is_subscribed (after.session.latches.entries q)
+        ≡ is_subscribed (client.session.latches.entries q))
+        → ((q : ChannelOf) → IsCovered (peak q) q after connection)
+        → Facts n peak after connection
+    restaged stage reply after restages latched registered heard covered = record {
+      accounted = latched.accounted;
+      matched = latched.matched;
+      bounded = latched.bounded;
+      counted = λ q.
+          count_restaged thread reply client after within waiter was stage restages.changes q
+          (registered q) (facts.counted q);
+      placed = place_restaged thread reply client after within facts.placed waiter was stage
+          restages.changes restages.fits restages.before_ restages.then_ heard;
+      answered = answered_changes thread (Some (at_stage stage waiter)) reply client after
+          restages.changes restages.reply_fits facts.answered;
+      covered = covered;
+    }
+
+    -- it sends a call, or a message, a permit or a timer has woken it: it is awake
+    pub awoken : (stage : Stage) (turn : ℕ)
+        → FitsStage stage waiter.registered
+        → is_joining_at waiter.stage ≡ false → is_joining_at stage ≡ false
+        → asked_with (Some waiter) ≡ false
+        → is_awake_at stage None waiter.want.function ≡ true
+        → Facts n peak
+        (record client {
+        session = with_stage thread waiter stage (record client.session { turn = turn });
+        })
+        connection
+    awoken stage turn fits old new not_asked awake =
+        restaged stage None after
+        (record {
+        changes = changes;
+        fits = fits;
+        before_ = old;
+        then_ = new;
+        reply_fits = λ asked. refl;
+        })
+        (latch_facts n peak client connection facts) (λ q. refl) (λ q. refl)
+        (λ q.
+        cover_awake thread None client after within (peak q) q connection waiter was stage changes
+        awake (λ outside. refl) (facts.covered q))
+      where
+        after : Client
+        after = record client {
+          session = with_stage thread waiter stage (record client.session { turn = turn });
+        }
+
+        no_answer : client.replies thread ≡ None
+        no_answer = no_reply client thread waiter was not_asked facts.answered
+
+        changes : ChangesThread thread (Some (at_stage stage waiter)) None client
+            (record client {
+            session = with_stage thread waiter stage (record client.session { turn = turn });
+            })
+        changes =
+            subst
+            (λ r. ChangesThread thread (Some (at_stage stage waiter)) r client
+            (record client {
+            session = with_stage thread waiter stage (record client.session { turn = turn });
+            }))
+            no_answer
+            (changes_waiter thread (Some (at_stage stage waiter)) client
+            (record client.session { turn = turn }) refl refl)
+
+    -- it takes a permit, and is awake
+    pub permitted : (stage : Stage) (turn : ℕ)
+        → waiter.registered ≡ true → FitsStage stage waiter.registered
+        → is_joining_at waiter.stage ≡ false → is_joining_at stage ≡ false
+        → asked_with (Some waiter) ≡ false
+        → is_awake_at stage None waiter.want.function ≡ true
+        → Facts n peak
+        (record client {
+        session = with_stage thread waiter stage
+            (record
+            (with_latches
+            (take_permit_at (channel_in client.session thread waiter) client.session.latches)
+            client.session) {
+            turn = turn;
+            });
+        })
+        connection
+    permitted stage turn inside fits old new not_asked awake =
+        restaged stage None after
+        (record {
+        changes = changes;
+        fits = fits;
+        before_ = old;
+        then_ = new;
+        reply_fits = λ asked. refl;
+        })
+        (latch_facts_permit n client.session.latches connection
+        (latch_facts n peak client connection facts) (channel_in client.session thread waiter))
+        (by_channel (λ q x. x.registered ≡ (client.session.latches.entries q).registered)
+        (channel_in client.session thread waiter) (take_permit (entry_for client.session thread waiter))
+        client.session.latches.entries after.session.latches.entries entry refl
+        (λ q other. refl))
+        (by_channel (λ q x. is_subscribed x ≡ is_subscribed (client.session.latches.entries q))
+        (channel_in client.session thread waiter) (take_permit (entry_for client.session thread waiter))
+        client.session.latches.entries after.session.latches.entries entry refl
+        (λ q other. refl))
+        (λ q.
+        cover_awake thread None client after within (peak q) q connection waiter was stage changes
+        awake (λ outside. elsewhere q outside) (facts.covered q))
+      where
+        after : Client
+        after = record client {
+          session = with_stage thread waiter stage
+              (record
+              (with_latches
+              (take_permit_at (channel_in client.session thread waiter) client.session.latches)
+              client.session) {
+              turn = turn;
+              });
+        }
+
+        entry : ChangesEntry (channel_in client.session thread waiter)
+            (take_permit (entry_for client.session thread waiter))
+            client.session.latches.entries
+            (take_permit_at (channel_in client.session thread waiter)
+            client.session.latches).entries
+        entry = entry_put (channel_in client.session thread waiter)
+            (take_permit (entry_for client.session thread waiter)) client.session.latches.entries
+
+        no_answer : client.replies thread ≡ None
+        no_answer = no_reply client thread waiter was not_asked facts.answered
+
+        changes : ChangesThread thread (Some (at_stage stage waiter)) None client
+            (record client {
+            session = with_stage thread waiter stage
+                (record
+                (with_latches
+                (take_permit_at (channel_in client.session thread waiter) client.session.latches)
+                client.session) {
+                turn = turn;
+                });
+            })
+        changes =
+            subst
+            (λ r. ChangesThread thread (Some (at_stage stage waiter)) r client
+            (record client {
+            session = with_stage thread waiter stage
+                (record
+                (with_latches
+                (take_permit_at (channel_in client.session thread waiter) client.session.latches)
+                client.session) {
+                turn = turn;
+                });
+            }))
+            no_answer
+            (changes_waiter thread (Some (at_stage stage waiter)) client
+            (record
+            (with_latches
+            (take_permit_at (channel_in client.session thread waiter) client.session.latches)
+            client.session) {
+            turn = turn;
+            }) refl refl)
+
+        -- it is registered at its own channel alone
+        elsewhere : (q : ChannelOf) → is_registered q client thread ≡ false
+            → (after.session.latches.entries q).permits
+            ≡ (client.session.latches.entries q).permits
+        elsewhere q outside =
+            ap (λ (x : LatchEntry). x.permits)
+            (entry.there q
+            (sym (ap (λ b. b && same_channel q (channel_in client.session thread waiter)) inside)
+            ∙ sym (ap (registered_with q client thread) was) ∙ outside))
+
+    -- it looks, and sleeps
+    pub slept : (refusal : Refusal) → waiter.stage ≡ Refused refusal
+        → Facts n peak
+        (record client { session = with_stage thread waiter (Asleep refusal) client.session })
+        connection
+    slept refusal refused =
+        restaged (Asleep refusal) None after
+        (record {
+        changes = changes;
+        fits = subst (λ s. FitsStage s waiter.registered) refused
+            (placed_was thread None client after within facts.placed waiter was).fits;
+        before_ = ap is_joining_at refused;
+        then_ = refl;
+        reply_fits = λ asked. refl;
+        })
+        (latch_facts n peak client connection facts) (λ q. refl) (λ q. refl)
+        (λ q.
+        cover_kept thread None client after within (peak q) q connection waiter was (Asleep refusal)
+        changes
+        (ap (λ s. is_awake_at s (client.replies thread) waiter.want.function) refused)
+        (ap (λ s. is_blocked_at s (client.replies thread) waiter.want.function) refused)
+        (sym (ap (λ s. due_at s (client.replies thread)) refused)) refl (facts.covered q))
+      where
+        after : Client
+        after = record client { session = with_stage thread waiter (Asleep refusal) client.session }
+
+        no_answer : client.replies thread ≡ None
+        no_answer = no_reply client thread waiter was (ap is_asked_at refused) facts.answered
+
+        changes : ChangesThread thread (Some (at_stage (Asleep refusal) waiter)) None client
+            (record client {
+            session = with_stage thread waiter (Asleep refusal) client.session;
+            })
+        changes =
+            subst
+            (λ r. ChangesThread thread (Some (at_stage (Asleep refusal) waiter)) r client
+            (record client {
+            session = with_stage thread waiter (Asleep refusal) client.session;
+            }))
+            no_answer
+            (changes_waiter thread (Some (at_stage (Asleep refusal) waiter)) client client.session
+            refl refl)
+
+    -- A reply comes for it.
+    pub answered : (asking : Asking) (reply : Reply) → waiter.stage ≡ Asked asking
+        → IsInTime peak client thread waiter asking reply
+        → Facts n peak (with_reply thread (Some reply) client) connection
+    answered asking reply asked in_time =
+        restaged waiter.stage (Some reply) after
+        (record {
+        changes = changes;
+        fits = subst (λ s. FitsStage s waiter.registered) (sym asked) tt;
+        before_ = ap is_joining_at asked;
+        then_ = ap is_joining_at asked;
+        reply_fits = λ not_asked. absurd (false≢true (sym not_asked ∙ ap is_asked_at asked));
+        })
+        (latch_facts n peak client connection facts) (λ q. refl) (λ q. refl)
+        (λ q.
+        cover_answered thread (Some reply) client after within (peak q) q connection waiter was
+        asking reply asked refl changes (timer q) refl (facts.covered q))
+      where
+        after : Client
+        after = with_reply thread (Some reply) client
+
+        changes : ChangesThread thread (Some waiter) (Some reply) client
+            (with_reply thread (Some reply) client)
+        changes = record {
+          id = refl;
+          waiter = was;
+          answer = put_here client.replies thread (Some reply);
+          waiters = λ t apart. refl;
+          answers = λ t apart. put_there client.replies thread (Some reply) t apart;
+        }
+
+        timer : (q : ChannelOf) → blocks reply waiter.want.function ≡ true
+            → channel_wakes q.kind ≡ One → waits_at q client thread waiter ≡ true
+            → (m : ℕ) × (due_by_reply asking.at (Some reply) ≡ Some m) × (m ≤ peak q)
+        timer q blocked one there =
+            let parts = and_parts waiter.registered
+            (same_channel q (channel_in client.session thread waiter)) there in
+            let own_is : q ≡ channel_in client.session thread waiter =
+            same_is q (channel_in client.session thread waiter) parts.1 in
+            let busy = in_time.timer
+            (ap (λ (c : ChannelOf). channel_wakes c.kind) (sym own_is) ∙ one) blocked in
+            (asking.at + busy.0,
+            ap (λ r. due_by_reply asking.at (Some r)) busy.1,
+            subst (λ c. asking.at + busy.0 ≤ peak c) (sym own_is) busy.2)
+
+    -- The thread takes a reply that refuses its call, and was registered.
+    pub refused_again : (asking : Asking) (reply : Reply) → waiter.stage ≡ Asked asking
+        → client.replies thread ≡ Some reply → blocks reply waiter.want.function ≡ true
+        → waiter.registered ≡ true
+        → Facts n peak
+        (record (with_reply thread None client) {
+        session = with_stage thread waiter
+            (Refused (record { due = due_after asking.at reply; seen = asking.seen }))
+            client.session;
+        })
+        connection
+    refused_again asking reply asked replied blocked inside =
+        restaged stage None after
+        (record {
+        changes = changes;
+        fits = inside;
+        before_ = ap is_joining_at asked;
+        then_ = refl;
+        reply_fits = λ not_asked. refl;
+        })
+        (latch_facts n peak client connection facts) (λ q. refl) (λ q. refl)
+        (λ q.
+        cover_kept thread None client after within (peak q) q connection waiter was stage changes
+        ((λ i. is_awake_at (asked i) (replied i) waiter.want.function) ∙ ap not blocked)
+        ((λ i. is_blocked_at (asked i) (replied i) waiter.want.function) ∙ blocked)
+        (sym (λ i. due_at (asked i) (replied i))) refl (facts.covered q))
+      where
+        stage : Stage
+        stage = Refused (record { due = due_after asking.at reply; seen = asking.seen })
+
+        after : Client
+        after = record (with_reply thread None client) {
+          session = with_stage thread waiter
+              (Refused (record { due = due_after asking.at reply; seen = asking.seen }))
+              client.session;
+        }
+
+        changes : ChangesThread thread
+            (Some
+            (at_stage (Refused (record { due = due_after asking.at reply; seen = asking.seen }))
+            waiter))
+            None client
+            (record (with_reply thread None client) {
+            session = with_stage thread waiter
+                (Refused (record { due = due_after asking.at reply; seen = asking.seen }))
+                client.session;
+            })
+        changes =
+            changes_both thread
+            (Some
+            (at_stage (Refused (record { due = due_after asking.at reply; seen = asking.seen }))
+            waiter))
+            None client client.session refl refl
+
+    -- A request ends that wasn't registered: the latches stay.
+    pub ended : (reply : Option Reply) (after : Client)
+        → ChangesThread thread None reply client after → reply ≡ None
+        → waiter.registered ≡ false → after.session.latches ≡ client.session.latches
+        → Facts n peak after connection
+    ended reply after changes none outside same = record {
+      accounted = latched.accounted;
+      matched = latched.matched;
+      bounded = latched.bounded;
+      counted = λ q.
+          count_ended thread reply client after within waiter was changes outside q
+          (ap (λ (l : Latches). (l.entries q).registered) same) (facts.counted q);
+      placed = place_ended thread reply client after within facts.placed changes
+          (λ q. ap (λ (l : Latches). is_subscribed (l.entries q)) same);
+      answered = answered_changes thread None reply client after changes (λ not_asked. none)
+          facts.answered;
+      covered = λ q.
+          cover_ended thread reply client after within (peak q) q connection waiter was changes
+          outside (ap (λ (l : Latches). (l.entries q).permits) same) (facts.covered q);
+    }
+      where
+        latched : LatchFacts n after.session.latches connection
+        latched =
+            subst (λ l. LatchFacts n l connection) (sym same)
+            (latch_facts n peak client connection facts)
+
+    -- One ends that was: it leaves its channel.
+    pub left : (reply : Option Reply) (after : Client)
+        → ChangesThread thread None reply client after → reply ≡ None
+        → waiter.registered ≡ true
+        → after.session.latches
+        ≡ leave_at (channel_in client.session thread waiter) client.session.latches
+        → Facts n peak after connection
+    left reply after changes none inside same = record {
+      accounted = latched.accounted;
+      matched = latched.matched;
+      bounded = latched.bounded;
+      counted = count_left thread reply client after within waiter was changes inside entry
+          facts.counted;
+      placed = place_left thread reply client after within facts.placed waiter was facts.counted
+          changes inside entry;
+      answered = answered_changes thread None reply client after changes (λ not_asked. none)
+          facts.answered;
+      covered = λ q.
+          cover_left thread reply client after within (peak q) q connection waiter was changes
+          inside (facts.counted q) entry (facts.covered q);
+    }
+      where
+        latched : LatchFacts n after.session.latches connection
+        latched =
+            subst (λ l. LatchFacts n l connection) (sym same)
+            (latch_facts_left n client.session.latches connection
+            (latch_facts n peak client connection facts) (channel_in client.session thread waiter))
+
+        entry : ChangesEntry (channel_in client.session thread waiter)
+            (leave_in (channel_wakes (channel_in client.session thread waiter).kind)
+            (client.session.latches.entries (channel_in client.session thread waiter)))
+            client.session.latches.entries after.session.latches.entries
+        entry =
+            subst
+            (λ (l : Latches). ChangesEntry (channel_in client.session thread waiter)
+            (leave_in (channel_wakes (channel_in client.session thread waiter).kind)
+            (client.session.latches.entries (channel_in client.session thread waiter)))
+            client.session.latches.entries l.entries)
+            (sym same)
+            (entry_left (channel_in client.session thread waiter) client.session.latches)
+
+    -- One registers: it joins, or may ask at once where its client hears the channel already.
+    pub registers : (joined : Waiter) (after : Client) → suc n < 2 ^ 64
+        → ChangesThread thread (Some joined) None client after
+        → waiter.registered ≡ false → joined.registered ≡ true → joined.want ≡ waiter.want
+        → FitsStage joined.stage joined.registered
+        → is_joining_at joined.stage
+        ≡ not (is_subscribed
+        (register_in (client.session.latches.entries (channel_in client.session thread waiter))))
+        → is_blocked_at joined.stage None joined.want.function ≡ false
+        → after.session.latches
+        ≡ register_at (channel_in client.session thread waiter) client.session.latches
+        → Facts (suc n) peak after connection
+    registers joined after few changes outside inside want fits joining free same = record {
+      accounted = latched.accounted;
+      matched = latched.matched;
+      bounded = latched.bounded;
+      counted = λ q.
+          count_registered thread None client after within waiter was joined changes outside inside
+          want entry q (facts.counted q);
+      placed = place_registered thread None client after within facts.placed waiter was
+          facts.counted joined changes fits want joining entry;
+      answered = answered_changes thread (Some joined) None client after changes
+          (λ not_asked. refl) facts.answered;
+      covered = λ q.
+          cover_registered thread None client after within (peak q) q connection waiter was joined
+          changes outside free (permits q) (facts.covered q);
+    }
+      where
+        latched : LatchFacts (suc n) after.session.latches connection
+        latched =
+            subst (λ l. LatchFacts (suc n) l connection) (sym same)
+            (latch_facts_registered n client.session.latches connection
+            (latch_facts n peak client connection facts) (channel_in client.session thread waiter)
+            few)
+
+        entry : ChangesEntry (channel_in client.session thread waiter)
+            (register_in
+            (client.session.latches.entries (channel_in client.session thread waiter)))
+            client.session.latches.entries after.session.latches.entries
+        entry =
+            subst
+            (λ (l : Latches). ChangesEntry (channel_in client.session thread waiter)
+            (register_in
+            (client.session.latches.entries (channel_in client.session thread waiter)))
+            client.session.latches.entries l.entries)
+            (sym same)
+            (entry_registered (channel_in client.session thread waiter) client.session.latches)
+
+        permits : (q : ChannelOf)
+            → (after.session.latches.entries q).permits
+            ≡ (client.session.latches.entries q).permits
+        permits =
+            by_channel
+            (λ q x. x.permits ≡ (client.session.latches.entries q).permits)
+            (channel_in client.session thread waiter)
+            (register_in
+            (client.session.latches.entries (channel_in client.session thread waiter)))
+            client.session.latches.entries after.session.latches.entries entry
+            (permits_registered
+            (client.session.latches.entries (channel_in client.session thread waiter)))
+            (λ q other. refl)

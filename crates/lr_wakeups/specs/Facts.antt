@@ -1,0 +1,30 @@
+-- All facts of a client and of the connection by which it subscribes.
+use Rattle.std.specs.Prelude.{◌≡◌, ℕ, ◌≤◌}
+use Rattle.lr_limits.specs.Limits.{thread_limit}
+use Rattle.lr_names.specs.Channel.{ChannelOf}
+use Rattle.lr_model.specs.Board.{Connection, has_channel}
+use Rattle.lr_waiting.specs.Client.{Client}
+use Rattle.lr_wakeups.specs.Outstanding.{IsAccounted}
+use Rattle.lr_wakeups.specs.Orders.{OrdersMatch}
+use Rattle.lr_wakeups.specs.Permits.{IsBounded}
+use Rattle.lr_wakeups.specs.Registered.{IsCounted}
+use Rattle.lr_wakeups.specs.Joining.{PlacedIn}
+use Rattle.lr_wakeups.specs.Answered.{HasReplyIfAsked}
+use Rattle.lr_wakeups.specs.Standing.{IsCovered}
+
+-- Where at most n orders to subscribe were made on a channel, and each channel has a peak. Without
+-- a registered thread the client needs none of its own, and one that was cut off has none.
+pub record Facts (n : ℕ) (peak : ChannelOf → ℕ) (client : Client) (connection : Connection)
+    : Type 0 where
+  pub accounted : (channel : ChannelOf)
+      → IsAccounted n channel (client.session.latches.entries channel)
+      client.session.latches.orders connection.outbox
+  pub matched : (channel : ChannelOf)
+      → OrdersMatch channel (client.session.latches.entries channel)
+      client.session.latches.orders (has_channel channel connection)
+  pub bounded : (channel : ChannelOf)
+      → IsBounded channel (client.session.latches.entries channel)
+  pub counted : (channel : ChannelOf) → IsCounted channel client
+  pub placed : (thread : ℕ) → thread ≤ thread_limit → PlacedIn client thread
+  pub answered : (thread : ℕ) → HasReplyIfAsked client thread
+  pub covered : (channel : ChannelOf) → IsCovered (peak channel) channel client connection

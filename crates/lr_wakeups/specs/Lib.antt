@@ -1,0 +1,9 @@
+pub mod Counting
+pub mod Outstanding
+pub mod Orders
+pub mod Permits
+pub mod Registered
+pub mod Joining
+pub mod Answered
+pub mod Standing
+pub mod Facts
