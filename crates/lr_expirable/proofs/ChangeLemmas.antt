@@ -10,19 +10,19 @@ use Rattle.lr_limits.specs.Limits.{member_limit, never}
 use Rattle.lr_names.specs.Owner.{IsId, id_text}
 use Rattle.lr_lists.specs.Places.{item_at}
 use Rattle.lr_sorted.specs.Members.{Scored, Members as Scores, is_in_order, score_of}
-use Rattle.lr_sorted.proofs.MemberLaws.{InOrder, eq-same, in_order_from, in_order_to}
+use Rattle.lr_sorted.proofs.MemberLaws.{eq-same, in_order_from, in_order_to}
 use Rattle.lr_sorted.proofs.SortedLaws.{sorted-in_order}
 use Rattle.lr_keys.specs.declared.fault.KeyFault.{KeyFault}
 use Rattle.lr_keys.specs.declared.fault.KeyFault.TheVariants.{NoMemory}
 use Rattle.lr_keys.specs.declared.value_kind.ValueKind.TheVariants.{Zset}
 use Rattle.lr_keys.specs.KeySpace.{Answers, ChangesEntry, KeyEntry, Keys, IsPrepared, WritesMember, entry_at, entry_with_member, entry_without_member, found_in, is_new_member, is_new_score, score_at, seen, zset_at}
 use Rattle.lr_model.specs.Moment.{is_live}
-use Rattle.lr_model.specs.Permits.{PermitLease, is_under, least_deadline, lease_under, live_leases, without_lease}
+use Rattle.lr_model.specs.Permits.{PermitLease, is_under, lease_under, live_leases, without_lease}
 use Rattle.lr_model.proofs.ReadWriteFacts.{none_some, some_one}
 use Rattle.lr_expirable.specs.Leases.{AreLeases, AreLeasesAt, in_order_of, members_entry, members_of}
 use Rattle.lr_expirable.specs.Step.{HasLive, IsFirstGone, live_members}
 use Rattle.lr_expirable.proofs.EntryLaws.{changed-here, if_ok, member-removed, member-written, members_in, succeeds}
-use Rattle.lr_expirable.proofs.LeaseLaws.{deadline_in, first-least, in_order-with, in_order-without, leases-filter, leases-with, length-in_order, live-all, live-in_order, no-first, score_of-in_order}
+use Rattle.lr_expirable.proofs.LeaseLaws.{deadline_in, in_order-with, in_order-without, leases-filter, leases-with, length-in_order, live-all, live-in_order, score_of-in_order}
 
 module _ (entry : Option KeyEntry) (leases : List PermitLease) (at : AreLeasesAt entry leases) where
   -- what a look sees
@@ -31,19 +31,6 @@ module _ (entry : Option KeyEntry) (leases : List PermitLease) (at : AreLeasesAt
 
   pub length-seen : result_unwrap_or (seen length (zset_at entry)) 0 ≡ length leases
   length-seen = ap (λ r. result_unwrap_or r 0) (looks length) ∙ length-in_order leases
-
-  first-seen : result_unwrap_or (seen (item_at (pos 0)) (zset_at entry)) None
-      ≡ slice_get (in_order_of leases) 0
-  first-seen = ap (λ r. result_unwrap_or r None) (looks (item_at (pos 0)))
-
-  pub least-some : (e : Scored)
-      → result_unwrap_or (seen (item_at (pos 0)) (zset_at entry)) None ≡ Some e
-      → e.1 ≡ least_deadline leases
-  least-some e found = first-least leases e (sym first-seen ∙ found)
-
-  pub least-none : result_unwrap_or (seen (item_at (pos 0)) (zset_at entry)) None ≡ None
-      → 0 ≡ least_deadline leases
-  least-none none = sym (no-first leases (sym first-seen ∙ none))
 
   module _ (id : List ℕ) (in_id : IsId id) (member : List ℕ) (text : member ≡ id_text id) where
     -- the deadline of the lease under an id
@@ -141,44 +128,33 @@ first-dropped keys new key member deadline rest stands zrem answer changes =
     ∙ ap (λ b. members_entry (if b then rest else (member, deadline) ∷ remove_entry (bytes_eq member) rest))
     same
 
--- where there are members the first is one of them
-pub first-gone : (entry : Option KeyEntry) (members : Scores) (moment : ℕ) (e : Scored)
-    → entry ≡ members_entry members
-    → result_unwrap_or (seen (item_at (pos 0)) (zset_at entry)) None ≡ Some e → e.1 ≤ moment
-    → IsFirstGone moment members e.0
-first-gone entry members moment e stands found gone =
-    by members (sym (ap (λ r. result_unwrap_or (seen (item_at (pos 0)) r) None)
-    (ap zset_at stands ∙ members_in members)) ∙ found)
-  where
-    by : (ms : Scores) → slice_get ms 0 ≡ Some e → IsFirstGone moment ms e.0
-    by [] at = absurd (none_some e (sym at))
-    by (m ∷ ms) at = record {
-      deadline = e.1;
-      rest = ms;
-      first = ap (λ x. x ∷ ms) (some_one m e at);
-      gone = gone;
-    }
+-- what a look at the first place sees
+pub first-seen : (entry : Option KeyEntry) (members : Scores) → entry ≡ members_entry members
+    → result_unwrap_or (seen (item_at (pos 0)) (zset_at entry)) None ≡ slice_get members 0
+first-seen entry members stands =
+    ap (λ r. result_unwrap_or (seen (item_at (pos 0)) r) None)
+    (ap zset_at stands ∙ members_in members)
 
-pub none-gone : (entry : Option KeyEntry) (members : Scores) (moment : ℕ) (e : Scored)
-    → entry ≡ members_entry members → is_in_order members ≡ true
-    → result_unwrap_or (seen (item_at (pos 0)) (zset_at entry)) None ≡ Some e → moment < e.1
-    → live_members moment members ≡ members
-none-gone entry members moment e stands order found ahead =
-    live-all moment e members (in_order_from members order)
-    (sym (ap (λ r. result_unwrap_or (seen (item_at (pos 0)) r) None)
-    (ap zset_at stands ∙ members_in members)) ∙ found) ahead
+-- it is gone
+pub first-gone : (members : Scores) (moment : ℕ) (e : Scored) → slice_get members 0 ≡ Some e
+    → e.1 ≤ moment → IsFirstGone moment members e.0
+first-gone [] moment e at gone = absurd (none_some e (sym at))
+first-gone (m ∷ ms) moment e at gone = record {
+  deadline = e.1;
+  rest = ms;
+  first = ap (λ x. x ∷ ms) (some_one m e at);
+  gone = gone;
+}
 
-pub none-there : (entry : Option KeyEntry) (members : Scores) (moment : ℕ)
-    → entry ≡ members_entry members
-    → result_unwrap_or (seen (item_at (pos 0)) (zset_at entry)) None ≡ None
+-- it isn't, or there is none
+pub none-gone : (members : Scores) (moment : ℕ) (e : Scored) → is_in_order members ≡ true
+    → slice_get members 0 ≡ Some e → moment < e.1 → live_members moment members ≡ members
+none-gone members moment e order at ahead = live-all moment e members (in_order_from members order) at ahead
+
+pub none-there : (members : Scores) (moment : ℕ) → slice_get members 0 ≡ None
     → live_members moment members ≡ members
-none-there entry members moment stands none =
-    by members (sym (ap (λ r. result_unwrap_or (seen (item_at (pos 0)) r) None)
-    (ap zset_at stands ∙ members_in members)) ∙ none)
-  where
-    by : (ms : Scores) → slice_get ms 0 ≡ None → live_members moment ms ≡ ms
-    by [] e = refl
-    by (m ∷ ms) e = absurd (none_some m e)
+none-there [] moment e = refl
+none-there (m ∷ ms) moment e = absurd (none_some m e)
 
 -- ---- all that are gone
 

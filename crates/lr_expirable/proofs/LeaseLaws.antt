@@ -61,7 +61,10 @@ module _ (id : List ℕ) (in_id : IsId id) where
       ≡ cond (bytes_eq (id_text id) q) None (score_of q (members_of leases))
   scores-without q [] ids = nothing (bytes_eq (id_text id) q)
     where
-      nothing : (b : Bool) → None ≡ cond b None None
+      none : Option ℕ
+      none = None
+
+      nothing : (b : Bool) → none ≡ cond b none none
       nothing true = refl
       nothing false = refl
   scores-without q (first ∷ rest) ids =

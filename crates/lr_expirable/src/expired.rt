@@ -6,6 +6,7 @@ ghost use Rattle.lr_sorted.specs.Members.{Members, is_in_order};
 ghost use Rattle.lr_expirable.specs.Leases.{AreLeasesAt, members_entry};
 ghost use Rattle.lr_expirable.specs.Step.{IsFirstGone, live_members};
 
+use crate::leases::first_lease;
 use lr_keys::KeySpace;
 use lr_text::Brief;
 
@@ -21,7 +22,7 @@ fn expired(keys: &KeySpace, key: &Brief) -> Option<Brief>
         → entry_at keys.now key.now ≡ members_entry members → is_in_order members ≡ true
         → live_members keys.now.moment members ≡ members }
 {
-    let first = keys.zindex(key, 0).unwrap_or(None)?;
+    let first = first_lease(keys, key)?;
     if first.1 > keys.moment() {
         return None;
     }

@@ -1,10 +1,11 @@
 //! The leases under a key: what it says of them, and the changes of one.
-ghost use Rattle.std.specs.Prelude.{◌≡◌, ◌<◌, ◌≤◌, ℕ, List, ◌∷◌, length, None, is_some, option_map, true, false};
-ghost use Rattle.lr_keys.specs.KeySpace.{ChangesOnly, IsPrepared, entry_at};
+ghost use Rattle.std.specs.Prelude.{◌≡◌, ◌<◌, ◌≤◌, ℕ, List, ◌∷◌, length, Ok, Some, None, IfSome, is_some, option_map, slice_get, true, false};
+ghost use Rattle.lr_keys.specs.KeySpace.{ChangesOnly, IsPrepared, entry_at, score_at};
 ghost use Rattle.lr_limits.specs.Limits.{member_limit, never};
 ghost use Rattle.lr_model.specs.Permits.{PermitLease, least_deadline, lease_under, without_lease};
 ghost use Rattle.lr_names.specs.Owner.{IsId, id_text};
-ghost use Rattle.lr_expirable.specs.Leases.{AreLeasesAt};
+ghost use Rattle.lr_sorted.specs.Members.{Members};
+ghost use Rattle.lr_expirable.specs.Leases.{AreLeasesAt, members_entry};
 
 use lr_keys::{KeySpace, ValueKind};
 use lr_text::Brief;
@@ -27,12 +28,22 @@ pub(crate) fn len(keys: &KeySpace, key: &Brief) -> u64
     keys.zcard(key).unwrap_or(0)
 }
 
+/// The text and the deadline of the lease that runs out first, if there is one.
+pub(crate) fn first_lease(keys: &KeySpace, key: &Brief) -> Option<(Brief, u64)>
+    ensures first { (members : Members) → entry_at keys.now key.now ≡ members_entry members
+        → result ≡ slice_get members 0 }
+    ensures there { IfSome result (λ first. (score : ℕ)
+        × (score_at first.0 (entry_at keys.now key.now) ≡ Ok (Some score))) }
+{
+    keys.zindex(key, 0).unwrap_or(None)
+}
+
 /// The deadline that comes first, where there is a lease.
 pub(crate) fn least_deadline(keys: &KeySpace, key: &Brief) -> u64
     ensures { (leases : List PermitLease) → AreLeasesAt (entry_at keys.now key.now) leases
         → result ≡ least_deadline leases }
 {
-    match keys.zindex(key, 0).unwrap_or(None) {
+    match first_lease(keys, key) {
         Some((_, deadline)) => deadline,
         None => 0,
     }

@@ -36,6 +36,12 @@ pub fn id_brief(id: &Uuid) -> Brief
     ensures id { IsId id.now }
 {
     check_id(id);
+    written(id)
+}
+
+fn written(id: &Uuid) -> Brief
+    ensures { result ≡ id_text id.now }
+{
     let mut buffer = [0; ID_BYTES];
     let mut text = Brief::new();
     text.push_bytes(id.hyphenated().encode_lower(&mut buffer).as_bytes());

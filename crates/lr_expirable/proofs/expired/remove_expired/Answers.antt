@@ -1,0 +1,24 @@
+use Rattle.std.proofs.Common.{◌∙◌}
+use Rattle.lr_keys.specs.KeySpace.{entry_at}
+use Rattle.lr_expirable.specs.Step.{IsFirstGone}
+use Rattle.lr_expirable.proofs.ChangeLemmas.{has-live, has-live-still, live-left}
+use Rattle.lr_expirable.proofs.expired.remove_expired.Goals as goal
+
+pub expired-preserved : goal.expired-preserved
+expired-preserved c =
+    let key = c.args.key.now in
+    let before = c.expired.invariant in
+    record {
+      live = λ members order stands.
+          let has = before.live members order stands in
+          let gone : IsFirstGone c.expired.keys.moment has.left c.in-Some.member =
+          c.in-Some.ensures.some has.left has.stands in
+          has-live-still (entry_at c.expired.keys key) (entry_at c.drop_first.new.keys key)
+          c.args.keys.now.moment members c.in-Some.member has
+          (subst (λ m. IsFirstGone m has.left c.in-Some.member) before.moment gone)
+          (c.drop_first.ensures.dropped gone.deadline gone.rest (has.stands
+          ∙ ap members_entry gone.first));
+      others = λ q apart. c.drop_first.ensures.others q apart ∙ before.others q apart;
+      moment = c.drop_first.ensures.moment ∙ before.moment;
+      prepared = c.drop_first.ensures.prepared ∙ before.prepared;
+    }
