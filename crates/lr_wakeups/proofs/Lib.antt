@@ -17,3 +17,4 @@ pub mod Joined
 pub mod Relatched
 pub mod LatchFacts
 pub mod ThreadSteps
+pub mod Rows
