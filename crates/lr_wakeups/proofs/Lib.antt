@@ -18,3 +18,4 @@ pub mod Relatched
 pub mod LatchFacts
 pub mod ThreadSteps
 pub mod Rows
+pub mod ServerSteps
