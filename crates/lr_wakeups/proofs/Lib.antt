@@ -17,3 +17,5 @@ pub mod Joined
 pub mod Relatched
 pub mod LatchFacts
 pub mod ThreadSteps
+pub mod Rows
+pub mod ServerSteps

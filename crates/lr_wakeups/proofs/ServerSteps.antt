@@ -1,0 +1,567 @@
+-- All facts after what the server does: it executes an order, an item comes, a message is sent; and
+-- after a cut.
+use Rattle.std.proofs.Common.{◌≡◌, ℕ, zero, suc, ◌+◌, ◌<◌, ◌≤◌, ◌^◌, ◌==◌, nat_lt, List, [], ◌∷◌, ◌++◌, drop, slice_get, Bool, true, false, not, ◌&&◌, ◌||◌, Option, Some, None, refl, ap, sym, ◌∙◌, subst, arith, if◌then◌else◌}
+use Rattle.std.specs.List.{list_any}
+use Rattle.std.proofs.lemmas.Bool.{and_parts, or_cases, false≢true, ne_eqb}
+use Rattle.std.proofs.lemmas.List.Folds.{list_any-append}
+use Rattle.std.proofs.lemmas.Option.{same_Some}
+use Rattle.lr_limits.specs.Limits.{thread_limit}
+use Rattle.lr_names.specs.Channel.{ChannelOf, channel_wakes}
+use Rattle.lr_names.specs.declared.kind.Wakes.{Wakes}
+use Rattle.lr_names.specs.declared.kind.Wakes.TheVariants.{One, All}
+use Rattle.lr_names.specs.declared.post.Post.{Post}
+use Rattle.lr_names.specs.declared.post.Push.{Push}
+use Rattle.lr_names.specs.declared.post.Push.TheVariants.{Subscribed, Unsubscribed, Message}
+use Rattle.lr_waiting.specs.declared.latch.LatchEntry.{LatchEntry}
+use Rattle.lr_waiting.specs.declared.latch.Order.{Order}
+use Rattle.lr_waiting.specs.declared.waiter.Stage.{Stage}
+use Rattle.lr_waiting.specs.declared.waiter.Stage.TheVariants.{Joining}
+use Rattle.lr_waiting.specs.declared.waiter.Waiter.{Waiter}
+use Rattle.lr_objects.specs.declared.kinds.Function.{Function}
+use Rattle.lr_objects.specs.declared.reply.Reply.{Reply}
+use Rattle.lr_model.specs.Board.{same_channel, Connection, has_channel, has_room, is_overrun, closed_connection, dropped_connection, with_item, connection_after_post, connection_after_subscribe, connection_after_unsubscribe, connection_after_drain}
+use Rattle.lr_waiting.specs.Latch.{Latches, no_entry, no_latches, is_subscribed, acknowledge_in, acknowledge_at, deliver_in, deliver_at, first_order_of, without_first_order}
+use Rattle.lr_waiting.specs.Session.{Session, with_latches, with_joined, pushed, acknowledged, order_taken, channel_in, is_joining_at}
+use Rattle.lr_waiting.specs.Client.{Client, waiter_in, new_client, cut_client}
+use Rattle.lr_waiting.specs.Stand.{in_flight, is_message_on}
+use Rattle.lr_model.proofs.SameChannel.{same_is, same_self}
+use Rattle.lr_wakeups.specs.Counting.{count_below, one_if}
+use Rattle.lr_wakeups.specs.Outstanding.{IsAccounted}
+use Rattle.lr_wakeups.specs.Orders.{OrdersMatch, connection_after_order}
+use Rattle.lr_wakeups.specs.Registered.{is_registered, registered_on, IsCounted}
+use Rattle.lr_wakeups.specs.Joining.{IsPlaced, PlacedWith, PlacedIn}
+use Rattle.lr_wakeups.specs.Standing.{is_blocked_at, blocked_with, is_blocked, Stands, IsCovered, ByMessage, ByPermit, ByAwake, ByTimer}
+use Rattle.lr_wakeups.specs.Facts.{Facts}
+use Rattle.lr_wakeups.proofs.Entries.{delivered_by}
+use Rattle.lr_wakeups.proofs.Outstanding.{unacknowledged}
+use Rattle.lr_wakeups.proofs.Heard.{is_heard}
+use Rattle.lr_wakeups.proofs.ChannelFacts.{order_for}
+use Rattle.lr_wakeups.proofs.EntryChanges.{ChangesEntry, entry_put, by_channel, registered_acknowledged, permits_acknowledged, registered_delivered, heard_delivered, permit_delivered}
+use Rattle.lr_wakeups.proofs.LatchFacts.{LatchFacts, latch_facts_at_start, latch_facts_posted, latch_facts_executed, latch_facts_acknowledged, latch_facts_unsubscribed, latch_facts_delivered}
+use Rattle.lr_wakeups.proofs.Registered.{counts_same, counts_one}
+use Rattle.lr_wakeups.proofs.Answered.{answered_same}
+use Rattle.lr_wakeups.proofs.Standing.{blocked_registered, covered_alike}
+use Rattle.lr_wakeups.proofs.Joined.{counted_client, joined_client, joined_registered, joined_blocked, joined_awake, joined_due, joined_asked, joined_placed}
+use Rattle.lr_wakeups.proofs.Relatched.{relatched, cover_threads, count_relatched, place_relatched, answer_relatched, cover_relatched}
+use Rattle.lr_wakeups.proofs.ThreadSteps.{latch_facts}
+
+-- A thread that was refused hears its channel.
+
+blocked_joins : (stage : Stage) (reply : Option Reply) (function : Function)
+    → is_blocked_at stage reply function ≡ true → is_joining_at stage ≡ false
+blocked_joins Joining reply function e = absurd (false≢true e)
+blocked_joins _ reply function e = refl
+
+heard_where_blocked : (client : Client) (q : ChannelOf) (thread : ℕ) → PlacedIn client thread
+    → is_blocked q client thread ≡ true
+    → is_subscribed (client.session.latches.entries q) ≡ true
+heard_where_blocked client q thread placed = by (waiter_in client thread) placed.placed
+  where
+    true_of : (b : Bool) → false ≡ not b → b ≡ true
+    true_of true e = refl
+    true_of false e = absurd (false≢true e)
+
+    by : (found : Option Waiter) → PlacedWith client.session thread found
+        → blocked_with q client thread found ≡ true
+        → is_subscribed (client.session.latches.entries q) ≡ true
+    by None p blocked = absurd (false≢true blocked)
+    by (Some waiter) p blocked =
+        let parts = and_parts
+        (waiter.registered && same_channel q (channel_in client.session thread waiter))
+        (is_blocked_at waiter.stage (client.replies thread) waiter.want.function) blocked in
+        let there = and_parts waiter.registered
+        (same_channel q (channel_in client.session thread waiter)) parts.0 in
+        ap (λ c. is_subscribed (client.session.latches.entries c))
+        (same_is q (channel_in client.session thread waiter) there.1)
+        ∙ true_of
+        (is_subscribed (client.session.latches.entries (channel_in client.session thread waiter)))
+        (sym
+        (blocked_joins waiter.stage (client.replies thread) waiter.want.function parts.1)
+        ∙ p.joining there.0)
+
+-- what stands first in an outbox
+first_item : (box : List Push) (push : Push) → slice_get box 0 ≡ Some push
+    → box ≡ push ∷ drop 1 box
+first_item [] push e = absurd (none_some e)
+  where
+    none_some : None ≡ Some push → ⊥
+    none_some f = absurd (cc f)
+first_item (item ∷ box) push e = ap (λ p. p ∷ box) (same_Some item push e)
+
+module _ (n : ℕ) (peak : ChannelOf → ℕ) (client : Client) (connection : Connection)
+    (facts : Facts n peak client connection) where
+  -- what a message stood by is among the rest, or was the first item
+  flying : (q : ChannelOf) (push : Push) (rest : List Push) → connection.outbox ≡ push ∷ rest
+      → is_message_on q push ≡ false → in_flight q connection.outbox ≡ true
+      → in_flight q rest ≡ true
+  flying q push rest first other flies =
+      ap (λ b. b || in_flight q rest) (sym other) ∙ sym (ap (in_flight q) first) ∙ flies
+
+  -- an order to leave a channel was acknowledged
+  unsubscribed_comes : (channel : Option ChannelOf) (count : ℕ) (rest : List Push)
+      → connection.outbox ≡ Unsubscribed channel count ∷ rest
+      → Facts n peak client (record connection { outbox = rest })
+  unsubscribed_comes channel count rest first = record {
+    accounted = latched.accounted;
+    matched = latched.matched;
+    bounded = facts.bounded;
+    counted = facts.counted;
+    placed = facts.placed;
+    answered = facts.answered;
+    covered = λ q.
+        cover_threads (peak q) q client client connection (record connection { outbox = rest })
+        (λ t blocked. blocked) (λ t awake. awake) (λ t m due. due) (λ some. some)
+        (λ one t within blocked flies.
+        ByMessage (flying q (Unsubscribed channel count) rest first refl flies))
+        (facts.covered q);
+  }
+    where
+      latched : LatchFacts n client.session.latches (record connection { outbox = rest })
+      latched =
+          latch_facts_unsubscribed n client.session.latches connection rest
+          (latch_facts n peak client connection facts) channel count first
+
+  -- a message comes
+  message_comes : (channel : ChannelOf) (wakes : Wakes) (rest : List Push)
+      → connection.outbox ≡ Message channel wakes ∷ rest
+      → Facts n peak (relatched (deliver_at channel client.session.latches) client)
+      (record connection { outbox = rest })
+  message_comes channel wakes rest first = record {
+    accounted = latched.accounted;
+    matched = latched.matched;
+    bounded = latched.bounded;
+    counted = λ q. count_relatched latches client q (registered q) (facts.counted q);
+    placed = λ t within. place_relatched latches client heard t within (facts.placed t within);
+    answered = λ t. answer_relatched latches client t (facts.answered t);
+    covered = λ q.
+        cover_relatched latches client (peak q) q connection (record connection { outbox = rest })
+        (permits q) (message q) (facts.covered q);
+  }
+    where
+      latches : Latches
+      latches = deliver_at channel client.session.latches
+
+      latched : LatchFacts n (deliver_at channel client.session.latches)
+          (record connection { outbox = rest })
+      latched =
+          latch_facts_delivered n client.session.latches connection rest
+          (latch_facts n peak client connection facts) channel wakes first
+
+      entry : ChangesEntry channel
+          (deliver_in (channel_wakes channel.kind) (client.session.latches.entries channel))
+          client.session.latches.entries
+          (deliver_at channel client.session.latches).entries
+      entry = entry_put channel
+          (deliver_in (channel_wakes channel.kind) (client.session.latches.entries channel))
+          client.session.latches.entries
+
+      registered : (q : ChannelOf)
+          → ((deliver_at channel client.session.latches).entries q).registered
+          ≡ (client.session.latches.entries q).registered
+      registered =
+          by_channel (λ q x. x.registered ≡ (client.session.latches.entries q).registered) channel
+          (deliver_in (channel_wakes channel.kind) (client.session.latches.entries channel))
+          client.session.latches.entries (deliver_at channel client.session.latches).entries entry
+          (registered_delivered (channel_wakes channel.kind)
+          (client.session.latches.entries channel))
+          (λ q other. refl)
+
+      heard : (q : ChannelOf)
+          → is_subscribed ((deliver_at channel client.session.latches).entries q)
+          ≡ is_subscribed (client.session.latches.entries q)
+      heard =
+          by_channel (λ q x. is_subscribed x ≡ is_subscribed (client.session.latches.entries q))
+          channel
+          (deliver_in (channel_wakes channel.kind) (client.session.latches.entries channel))
+          client.session.latches.entries (deliver_at channel client.session.latches).entries entry
+          (heard_delivered (channel_wakes channel.kind) (client.session.latches.entries channel))
+          (λ q other. refl)
+
+      some_wait : (e : LatchEntry) → 0 < e.permits → e.permits ≤ e.registered → 1 ≤ e.registered
+      some_wait e some few = omega (arith, some, few)
+
+      permit_there : (wakes_ : Wakes) (e : LatchEntry) → e.permits ≤ e.registered
+          → 0 < e.permits → 0 < (deliver_in wakes_ e).permits
+      permit_there One e few some = permit_delivered e (some_wait e some few)
+      permit_there All e few some =
+          delivered_by (λ x. 0 < x.permits) All e (λ none. some) (λ more. some)
+
+      permits : (q : ChannelOf) → 0 < (client.session.latches.entries q).permits
+          → 0 < ((deliver_at channel client.session.latches).entries q).permits
+      permits =
+          by_channel
+          (λ q x. 0 < (client.session.latches.entries q).permits → 0 < x.permits) channel
+          (deliver_in (channel_wakes channel.kind) (client.session.latches.entries channel))
+          client.session.latches.entries (deliver_at channel client.session.latches).entries entry
+          (permit_there (channel_wakes channel.kind) (client.session.latches.entries channel)
+          (facts.bounded channel).few)
+          (λ q other some. some)
+
+      message : (q : ChannelOf) → channel_wakes q.kind ≡ One → (t : ℕ) → t ≤ thread_limit
+          → is_blocked q client t ≡ true → in_flight q connection.outbox ≡ true
+          → Stands (peak q) q (relatched (deliver_at channel client.session.latches) client)
+          (record connection { outbox = rest })
+      message q one t within blocked flies = by (same_channel q channel) refl
+        where
+          by : (b : Bool) → same_channel q channel ≡ b
+              → Stands (peak q) q (relatched (deliver_at channel client.session.latches) client)
+              (record connection { outbox = rest })
+          by false e = ByMessage (flying q (Message channel wakes) rest first e flies)
+          by true e =
+              let is : q ≡ channel = same_is q channel e in
+              let waits = counts_one q client t within (facts.counted q)
+              (blocked_registered q client t blocked) in
+              let here : (deliver_at channel client.session.latches).entries q
+                  ≡ deliver_in One (client.session.latches.entries q) =
+              ap (deliver_at channel client.session.latches).entries is ∙ entry.here
+              ∙ ap (λ (c : ChannelOf). deliver_in (channel_wakes c.kind)
+              (client.session.latches.entries c)) (sym is)
+              ∙ ap (λ w. deliver_in w (client.session.latches.entries q)) one in
+              ByPermit
+              (subst (λ (x : LatchEntry). 0 < x.permits) (sym here)
+              (permit_delivered (client.session.latches.entries q) waits))
+
+  -- an order to subscribe was acknowledged
+  module _ (channel : ChannelOf) (count : ℕ) (rest : List Push) (few : n < 2 ^ 64)
+      (first : connection.outbox ≡ Subscribed channel count ∷ rest) where
+    latched_acknowledged : LatchFacts n (acknowledge_at channel client.session.latches)
+        (record connection { outbox = rest })
+    latched_acknowledged =
+        latch_facts_acknowledged n client.session.latches connection rest
+        (latch_facts n peak client connection facts) channel count few first
+
+    entry_acknowledged : ChangesEntry channel
+        (acknowledge_in (client.session.latches.entries channel)) client.session.latches.entries
+        (acknowledge_at channel client.session.latches).entries
+    entry_acknowledged =
+        entry_put channel (acknowledge_in (client.session.latches.entries channel))
+        client.session.latches.entries
+
+    -- until now the client didn't hear the channel
+    silent : is_subscribed (client.session.latches.entries channel) ≡ false
+    silent =
+        ap (λ b. nat_lt 0 (client.session.latches.entries channel).registered && b)
+        (ne_eqb (client.session.latches.entries channel).acknowledged
+        (client.session.latches.entries channel).sent
+        (unacknowledged n channel (client.session.latches.entries channel)
+        client.session.latches.orders rest count
+        (subst
+        (IsAccounted n channel (client.session.latches.entries channel)
+        client.session.latches.orders) first (facts.accounted channel))))
+        ∙ and_no (nat_lt 0 (client.session.latches.entries channel).registered)
+      where
+        and_no : (b : Bool) → (b && false) ≡ false
+        and_no true = refl
+        and_no false = refl
+
+    registered_then : (q : ChannelOf)
+        → ((acknowledge_at channel client.session.latches).entries q).registered
+        ≡ (client.session.latches.entries q).registered
+    registered_then =
+        by_channel (λ q x. x.registered ≡ (client.session.latches.entries q).registered) channel
+        (acknowledge_in (client.session.latches.entries channel)) client.session.latches.entries
+        (acknowledge_at channel client.session.latches).entries entry_acknowledged
+        (registered_acknowledged (client.session.latches.entries channel)) (λ q other. refl)
+
+    permits_then : (q : ChannelOf) → 0 < (client.session.latches.entries q).permits
+        → 0 < ((acknowledge_at channel client.session.latches).entries q).permits
+    permits_then =
+        by_channel (λ q x. 0 < (client.session.latches.entries q).permits → 0 < x.permits) channel
+        (acknowledge_in (client.session.latches.entries channel)) client.session.latches.entries
+        (acknowledge_at channel client.session.latches).entries entry_acknowledged
+        (permits_acknowledged (client.session.latches.entries channel)
+        (facts.bounded channel).few)
+        (λ q other some. some)
+
+    acknowledged_comes : Facts n peak
+        (record client { session = acknowledged channel client.session })
+        (record connection { outbox = rest })
+    acknowledged_comes =
+        by (is_subscribed (acknowledge_in (client.session.latches.entries channel))) refl
+      where
+        by : (hears : Bool)
+            → is_subscribed (acknowledge_in (client.session.latches.entries channel)) ≡ hears
+            → Facts n peak
+            (record client {
+            session = if hears
+                then with_joined channel
+                (with_latches (acknowledge_at channel client.session.latches) client.session)
+                else with_latches (acknowledge_at channel client.session.latches) client.session;
+            })
+            (record connection { outbox = rest })
+        by false e = record {
+          accounted = latched_acknowledged.accounted;
+          matched = latched_acknowledged.matched;
+          bounded = latched_acknowledged.bounded;
+          counted = λ q.
+              count_relatched (acknowledge_at channel client.session.latches) client q
+              (registered_then q) (facts.counted q);
+          placed = λ t within.
+              place_relatched (acknowledge_at channel client.session.latches) client
+              (by_channel
+              (λ q x. is_subscribed x ≡ is_subscribed (client.session.latches.entries q)) channel
+              (acknowledge_in (client.session.latches.entries channel))
+              client.session.latches.entries
+              (acknowledge_at channel client.session.latches).entries entry_acknowledged
+              (e ∙ sym silent) (λ q other. refl))
+              t within (facts.placed t within);
+          answered = λ t.
+              answer_relatched (acknowledge_at channel client.session.latches) client t
+              (facts.answered t);
+          covered = λ q.
+              cover_relatched (acknowledge_at channel client.session.latches) client (peak q) q
+              connection (record connection { outbox = rest }) (permits_then q)
+              (λ one t within blocked flies.
+              ByMessage (flying q (Subscribed channel count) rest first refl flies))
+              (facts.covered q);
+        }
+        by true e = record {
+          accounted = latched_acknowledged.accounted;
+          matched = latched_acknowledged.matched;
+          bounded = latched_acknowledged.bounded;
+          counted = λ q.
+              counts_same client (joined_client channel client) q (joined_registered channel client q)
+              (registered_then q) (facts.counted q);
+          placed = λ t within.
+              joined_placed channel client t within silent e entry_acknowledged
+              (facts.placed t within);
+          answered = answered_same client (joined_client channel client)
+              (joined_asked channel client) (λ t. refl) facts.answered;
+          covered = λ q.
+              cover_threads (peak q) q client (joined_client channel client) connection
+              (record connection { outbox = rest }) (joined_blocked channel client q)
+              (joined_awake channel client q) (joined_due channel client q) (permits_then q)
+              (λ one t within blocked flies.
+              ByMessage (flying q (Subscribed channel count) rest first refl flies))
+              (facts.covered q);
+        }
+
+  -- the client takes the oldest item
+  pub facts_push : (push : Push) → n < 2 ^ 64 → slice_get connection.outbox 0 ≡ Some push
+      → Facts n peak (record client { session = pushed push client.session })
+      (connection_after_drain 1 connection)
+  facts_push push few at = by push (first_item connection.outbox push at)
+    where
+      by : (p : Push) → connection.outbox ≡ p ∷ drop 1 connection.outbox
+          → Facts n peak (record client { session = pushed p client.session })
+          (connection_after_drain 1 connection)
+      by (Subscribed channel count) first =
+          acknowledged_comes channel count (drop 1 connection.outbox) few first
+      by (Unsubscribed channel count) first =
+          unsubscribed_comes channel count (drop 1 connection.outbox) first
+      by (Message channel wakes) first =
+          message_comes channel wakes (drop 1 connection.outbox) first
+
+  -- the server executes the oldest order
+  pub facts_order : (order : Order) → first_order_of client.session.latches ≡ Some order
+      → Facts n peak (record client { session = order_taken client.session })
+      (connection_after_order order connection)
+  facts_order order at = by client.session.latches.orders refl at
+    where
+      -- what is on its way stays so
+      flies_on : (subscribe : Bool) (c q : ChannelOf) → in_flight q connection.outbox ≡ true
+          → in_flight q (connection_after_order (order_for subscribe c) connection).outbox ≡ true
+      flies_on true c q flies =
+          list_any-append (is_message_on q) connection.outbox _
+          ∙ ap (λ b. b || (false || false)) flies
+      flies_on false c q flies =
+          list_any-append (is_message_on q) connection.outbox _
+          ∙ ap (λ b. b || (false || false)) flies
+
+      by : (orders : List Order) → client.session.latches.orders ≡ orders
+          → slice_get orders 0 ≡ Some order
+          → Facts n peak (record client { session = order_taken client.session })
+          (connection_after_order order connection)
+      by [] e f = absurd (none_some f)
+        where
+          none_some : None ≡ Some order → ⊥
+          none_some g = absurd (cc g)
+      by (first ∷ rest) e f =
+          subst
+          (λ o. Facts n peak (record client { session = order_taken client.session })
+          (connection_after_order o connection))
+          (same_Some first order f) executed
+        where
+          latched : LatchFacts n (without_first_order client.session.latches)
+              (connection_after_order first connection)
+          latched =
+              subst
+              (λ os. LatchFacts n
+              (record { entries = client.session.latches.entries; orders = drop 1 os })
+              (connection_after_order first connection))
+              (sym e)
+              (latch_facts_executed n client.session.latches.entries connection rest first.subscribe
+              first.channel
+              (subst
+              (λ os. LatchFacts n
+              (record { entries = client.session.latches.entries; orders = os }) connection)
+              e (latch_facts n peak client connection facts)))
+
+          executed : Facts n peak (record client { session = order_taken client.session })
+              (connection_after_order first connection)
+          executed = record {
+            accounted = latched.accounted;
+            matched = latched.matched;
+            bounded = facts.bounded;
+            counted = λ q.
+                count_relatched (without_first_order client.session.latches) client q refl
+                (facts.counted q);
+            placed = λ t within.
+                place_relatched (without_first_order client.session.latches) client (λ q. refl) t
+                within (facts.placed t within);
+            answered = λ t.
+                answer_relatched (without_first_order client.session.latches) client t
+                (facts.answered t);
+            covered = λ q.
+                cover_relatched (without_first_order client.session.latches) client (peak q) q
+                connection (connection_after_order first connection) (λ some. some)
+                (λ one t within blocked flies.
+                ByMessage (flies_on first.subscribe first.channel q flies))
+                (facts.covered q);
+          }
+
+  -- A message is sent to a channel, which may lower the peak of this channel alone: a subscribed
+  -- client has it on its way then.
+  pub facts_post : (post : Post) (then_ : ChannelOf → ℕ) → is_overrun post connection ≡ false
+      → ((q : ChannelOf) → same_channel q post.channel ≡ false → peak q ≤ then_ q)
+      → Facts n then_ client (connection_after_post post connection)
+  facts_post post then_ room raised = record {
+    accounted = latched.accounted;
+    matched = latched.matched;
+    bounded = facts.bounded;
+    counted = facts.counted;
+    placed = facts.placed;
+    answered = facts.answered;
+    covered = covered;
+  }
+    where
+      latched : LatchFacts n client.session.latches (connection_after_post post connection)
+      latched =
+          latch_facts_posted n client.session.latches connection
+          (latch_facts n peak client connection facts) post room
+
+      -- what is on its way stays so
+      flies_on : (q : ChannelOf) → in_flight q connection.outbox ≡ true
+          → in_flight q (connection_after_post post connection).outbox ≡ true
+      flies_on q flies = by (has_channel post.channel connection) (has_room connection) room
+        where
+          by : (has roomy : Bool) → (has && not roomy) ≡ false
+              → in_flight q (if has then (if roomy
+              then with_item (Message post.channel post.wakes) connection
+              else dropped_connection connection) else connection).outbox ≡ true
+          by false roomy e = flies
+          by true true e =
+              list_any-append (is_message_on q) connection.outbox _
+              ∙ ap (λ b. b || (same_channel q post.channel || false)) flies
+          by true false e = absurd (false≢true (sym e))
+
+      -- on a channel that the connection has, the message is on its way then
+      flies_now : has_channel post.channel connection ≡ true
+          → in_flight post.channel (connection_after_post post connection).outbox ≡ true
+      flies_now subscribed = by (has_channel post.channel connection) (has_room connection) subscribed room
+        where
+          or_true : (b : Bool) → (b || (true || false)) ≡ true
+          or_true true = refl
+          or_true false = refl
+
+          by : (has roomy : Bool) → has ≡ true → (has && not roomy) ≡ false
+              → in_flight post.channel (if has then (if roomy
+              then with_item (Message post.channel post.wakes) connection
+              else dropped_connection connection) else connection).outbox ≡ true
+          by false roomy is e = absurd (false≢true is)
+          by true true is e =
+              list_any-append (is_message_on post.channel) connection.outbox _
+              ∙ ap (λ b. in_flight post.channel connection.outbox || (b || false))
+              (same_self post.channel)
+              ∙ or_true (in_flight post.channel connection.outbox)
+          by true false is e = absurd (false≢true (sym e))
+
+      raises : (q : ChannelOf) → peak q ≤ then_ q → Stands (peak q) q client connection
+          → Stands (then_ q) q client (connection_after_post post connection)
+      raises q more (ByMessage flies) = ByMessage (flies_on q flies)
+      raises q more (ByPermit some) = ByPermit some
+      raises q more (ByAwake t within awake) = ByAwake t within awake
+      raises q more (ByTimer t m within due few) = ByTimer t m within due (omega (arith, few, more))
+
+      covered : (q : ChannelOf)
+          → IsCovered (then_ q) q client (connection_after_post post connection)
+      covered q = by (same_channel q post.channel) refl
+        where
+          by : (b : Bool) → same_channel q post.channel ≡ b
+              → IsCovered (then_ q) q client (connection_after_post post connection)
+          by false e =
+              covered_alike (peak q) (then_ q) q client client connection
+              (connection_after_post post connection) (λ t blocked. blocked)
+              (λ one t within blocked. raises q (raised q e)) (facts.covered q)
+          by true e =
+              covered_alike (peak q) (then_ q) q client client connection
+              (connection_after_post post connection) (λ t blocked. blocked)
+              (λ one t within blocked stood.
+              ByMessage
+              (ap (λ c. in_flight c (connection_after_post post connection).outbox)
+              (same_is q post.channel e)
+              ∙ flies_now
+              (ap (λ c. has_channel c connection) (sym (same_is q post.channel e))
+              ∙ (is_heard n q (client.session.latches.entries q) client.session.latches.orders
+              (has_channel q connection) connection.outbox (facts.accounted q) (facts.matched q)
+              (heard_where_blocked client q t (facts.placed t within) blocked)).subscribed)))
+              (facts.covered q)
+
+  -- peaks may rise
+  pub facts_raised : (then_ : ChannelOf → ℕ) → ((q : ChannelOf) → peak q ≤ then_ q)
+      → Facts n then_ client connection
+  facts_raised then_ raised = record {
+    accounted = facts.accounted;
+    matched = facts.matched;
+    bounded = facts.bounded;
+    counted = facts.counted;
+    placed = facts.placed;
+    answered = facts.answered;
+    covered = λ q.
+        covered_alike (peak q) (then_ q) q client client connection connection
+        (λ t blocked. blocked) (λ one t within blocked. raises q (raised q)) (facts.covered q);
+  }
+    where
+      raises : (q : ChannelOf) → peak q ≤ then_ q → Stands (peak q) q client connection
+          → Stands (then_ q) q client connection
+      raises q more (ByMessage flies) = ByMessage flies
+      raises q more (ByPermit some) = ByPermit some
+      raises q more (ByAwake t within awake) = ByAwake t within awake
+      raises q more (ByTimer t m within due few) = ByTimer t m within due (omega (arith, few, more))
+
+-- A client without threads: at the start, and once it was cut off.
+
+none_below : (n : ℕ) → 0 ≡ count_below n (λ t. false)
+unfolding count_below
+none_below zero = refl
+none_below (suc n) = omega (arith, none_below n)
+
+-- the facts of a client that was cut off, whose connection was closed
+pub facts_cut : (n : ℕ) (peak : ChannelOf → ℕ) (client : Client)
+    → Facts n peak (cut_client client) closed_connection
+facts_cut n peak client = record {
+  accounted = (latch_facts_at_start n).accounted;
+  matched = (latch_facts_at_start n).matched;
+  bounded = (latch_facts_at_start n).bounded;
+  counted = λ q. record { count = none_below (thread_limit + 1) };
+  placed = λ t within. record { placed = tt };
+  answered = λ t. record { without = λ not_asked. refl };
+  covered = λ q. record { stands = λ one t within blocked. absurd (false≢true blocked) };
+}
+
+-- before its first request, whether its connection is open or not
+pub facts_at_start : (n : ℕ) (peak : ChannelOf → ℕ) (id : List ℕ) (lease : ℕ)
+    (connection : Connection) → connection.channels ≡ [] → connection.outbox ≡ []
+    → Facts n peak (new_client id lease) connection
+facts_at_start n peak id lease connection no_channels no_items = record {
+  accounted = λ q.
+      subst (IsAccounted n q no_entry []) (sym no_items) ((latch_facts_at_start n).accounted q);
+  matched = λ q.
+      subst (λ channels. OrdersMatch q no_entry [] (list_any (same_channel q) channels))
+      (sym no_channels) ((latch_facts_at_start n).matched q);
+  bounded = (latch_facts_at_start n).bounded;
+  counted = λ q. record { count = none_below (thread_limit + 1) };
+  placed = λ t within. record { placed = tt };
+  answered = λ t. record { without = λ not_asked. refl };
+  covered = λ q. record { stands = λ one t within blocked. absurd (false≢true blocked) };
+}
