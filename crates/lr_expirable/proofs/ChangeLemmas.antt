@@ -61,29 +61,29 @@ pub added : (keys new : Keys) (key : List ℕ) (leases : List PermitLease)
     → AreLeasesAt (entry_at new key) (record { id = id; deadline = deadline } ∷ leases)
 added keys new key leases at id in_id member text none room deadline early result answers memory
     written =
-      let members : Scores = in_order_of leases in
-      let few : nat_lt (length members) member_limit ≡ true =
-      ap (λ n. nat_lt n member_limit) (length-in_order leases) ∙ grind (arith, room, nat_tests) in
-      let score : score_of member members ≡ None =
-      ap (λ t. score_of t members) text ∙ score_of-in_order id in_id leases at.are
-      ∙ ap (option_map deadline_in) none in
-      let answer : is_new_member member (zset_at (entry_at keys key)) ≡ Ok true =
-      ap (is_new_member member) (ap zset_at at.stands ∙ members_in members)
-      ∙ (λ i. is_new_score (few i) (score i)) in
-      let ok = succeeds (λ (b : Bool). b) result
-      (is_new_member member (zset_at (entry_at keys key))) true answers answer memory in
-      let writes : WritesMember keys new key member deadline =
-      if_ok (λ b. WritesMember keys new key member deadline) result ok.0 ok.1 written in
-      let change : Option KeyEntry → Option KeyEntry =
-      λ e. Some (entry_with_member member deadline e) in
-      record {
-        stands =
-            changed-here keys new key change writes ∙ ap change at.stands
-            ∙ ap (λ t. Some (entry_with_member t deadline (members_entry members))) text
-            ∙ member-written (id_text id) deadline members
-            ∙ ap members_entry (sym (in_order-with id in_id leases at.are none deadline));
-        are = leases-with id in_id leases at.are none deadline room early;
-      }
+    let members : Scores = in_order_of leases in
+    let few : nat_lt (length members) member_limit ≡ true =
+    ap (λ n. nat_lt n member_limit) (length-in_order leases) ∙ grind (arith, room, nat_tests) in
+    let score : score_of member members ≡ None =
+    ap (λ t. score_of t members) text ∙ score_of-in_order id in_id leases at.are
+    ∙ ap (option_map deadline_in) none in
+    let answer : is_new_member member (zset_at (entry_at keys key)) ≡ Ok true =
+    ap (is_new_member member) (ap zset_at at.stands ∙ members_in members)
+    ∙ (λ i. is_new_score (few i) (score i)) in
+    let ok = succeeds (λ (b : Bool). b) result
+    (is_new_member member (zset_at (entry_at keys key))) true answers answer memory in
+    let writes : WritesMember keys new key member deadline =
+    if_ok (λ b. WritesMember keys new key member deadline) result ok.0 ok.1 written in
+    let change : Option KeyEntry → Option KeyEntry =
+    λ e. Some (entry_with_member member deadline e) in
+    record {
+      stands =
+          changed-here keys new key change writes ∙ ap change at.stands
+          ∙ ap (λ t. Some (entry_with_member t deadline (members_entry members))) text
+          ∙ member-written (id_text id) deadline members
+          ∙ ap members_entry (sym (in_order-with id in_id leases at.are none deadline));
+      are = leases-with id in_id leases at.are none deadline room early;
+    }
 
 -- a call that tells so has removed something
 pub removed_so : (zrem : Result Bool KeyFault) → result_unwrap_or zrem false ≡ true → zrem ≡ Ok true

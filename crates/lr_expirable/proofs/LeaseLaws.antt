@@ -336,8 +336,11 @@ module _ (moment : ℕ) where
   live-all e [] order at ahead = absurd (none_some e (sym at))
   live-all e (m ∷ ms) order at ahead =
       let one = ap (λ (s : Scored). s.1) (some_one m e at) in
-      stays (m ∷ ms) (is_ahead m (omega (arith, one, ahead)), later ms order.0
-      (omega (arith, one, ahead)))
+      stays (m ∷ ms) (
+        is_ahead m (omega (arith, one, ahead)),
+        later ms order.0
+            (omega (arith, one, ahead)),
+      )
     where
       is_ahead : (n : Scored) → moment < n.1 → live n ≡ true
       is_ahead n ahead = grind (arith, ahead, nat_tests)

@@ -136,7 +136,7 @@ module _ (keys : Keys) (number_key leases_key : List ℕ) (permits : Permits)
         (sym (cond-false (nat_lt (length permits.leases) number) _ _ no_room))
         (record {
           reply = ap (λ n. Busy n) (wait (ahead permits.leases live some_leases) (early permits.leases
-          at.leases_at.are.early));
+              at.leases_at.are.early));
           post = refl;
           permits = at;
         }))

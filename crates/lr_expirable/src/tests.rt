@@ -140,8 +140,15 @@ fn limits(rt: HostRuntime) -> Result<(), Fail> {
     let mut keys = KeySpace::new(rt.alloc())?;
     let name = Name::parse(b"a")?;
     let id = Uuid::from_u128(1);
-    let full = answers(rt.alloc(), &mut keys, 0, &name, &set(MOST_AMOUNT), &Reply::Set, true)
-        && are_put(rt.alloc(), &mut keys, &name);
+    let full = answers(
+        rt.alloc(),
+        &mut keys,
+        0,
+        &name,
+        &set(MOST_AMOUNT),
+        &Reply::Set,
+        true,
+    ) && are_put(rt.alloc(), &mut keys, &name);
     let calls = [
         (4, take(id, 5), Reply::TooMany, false),
         (4, PermitCall::Count, counted(MOST_AMOUNT - 65_536), false),

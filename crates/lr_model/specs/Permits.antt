@@ -90,9 +90,9 @@ abbrev pub take_permit : ℕ → List ℕ → ℕ → Permits → ℕ → Outcom
 take_permit moment id lease live number =
     if nat_lt (length live.leases) number
     then (
-      if nat_lt (length live.leases) member_limit
-      then silent_outcome Granted (with_new_lease id (moment + lease) live)
-      else silent_outcome TooMany live
+    if nat_lt (length live.leases) member_limit
+    then silent_outcome Granted (with_new_lease id (moment + lease) live)
+    else silent_outcome TooMany live
     )
     else silent_outcome (Busy (least_deadline live.leases - moment)) live
 

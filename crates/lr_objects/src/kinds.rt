@@ -104,7 +104,11 @@ impl Function {
             Function::ReadWrite(function) => Call::ReadWrite(function.call(owner, lease)),
             Function::Fenced(function) => Call::Fenced(function.call(owner, lease)),
             Function::Semaphore(function) => Call::Semaphore(function.call(want.number)),
-            Function::Permits(function) => Call::Permits(function.call(want.number, want.id, lease)),
+            Function::Permits(function) => Call::Permits(function.call(
+                want.number,
+                want.id,
+                lease,
+            )),
             Function::Countdown(function) => Call::Countdown(function.call(want.number)),
         }
     }

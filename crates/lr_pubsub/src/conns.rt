@@ -54,4 +54,11 @@ impl Conns {
     {
         self.numbers.as_slice()
     }
+
+    /// The numbers, as a list. It takes no memory.
+    pub fn into_numbers(self) -> Vec<u32>
+        ensures { result.items ≡ self }
+    {
+        self.numbers
+    }
 }

@@ -89,6 +89,13 @@ impl SessionState {
         }
     }
 
+    /// Whether the client was cut off.
+    pub fn is_cut(&self) -> bool
+        ensures { result ≡ (session_of self.now).is_cut }
+    {
+        self.is_cut
+    }
+
     /// The request of a thread: `None` where it has none.
     pub fn waiter(&self, thread: u32) -> Option<Waiter>
         ensures { result ≡ (session_of self.now).waiters thread }

@@ -1,7 +1,6 @@
 -- What a client's thread is told by each of its steps, where the step applies.
 use Rattle.std.specs.Prelude.{ℕ, ◌==◌, List, [], map, Bool, false, Option, Some, None, if◌then◌else◌}
 use Rattle.std.specs.Option.{option_map}
-
 use Rattle.lr_names.specs.Channel.{ChannelOf}
 use Rattle.lr_objects.specs.declared.kinds.Function.{Function}
 use Rattle.lr_objects.specs.declared.reply.Reply.{Reply}

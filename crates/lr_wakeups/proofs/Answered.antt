@@ -18,8 +18,8 @@ answered_changes thread found reply before after changes own answered t = by (ca
     by (inl same) =
         subst (HasReplyIfAsked after) (sym same)
         (record {
-        without = λ not_asked.
-            changes.answer ∙ own (ap asked_with (sym changes.waiter) ∙ not_asked);
+          without = λ not_asked.
+              changes.answer ∙ own (ap asked_with (sym changes.waiter) ∙ not_asked);
         })
     by (inr apart) = record {
       without = λ not_asked.

@@ -237,8 +237,8 @@ module _ (channel : ChannelOf) (client : Client) where
               let parts = and_parts waiter.registered
               (same_channel channel (channel_in client.session thread waiter)) there in
               let at : is_subscribed
-                  (client.session.latches.entries (channel_in client.session thread waiter))
-                  ≡ false =
+              (client.session.latches.entries (channel_in client.session thread waiter))
+              ≡ false =
               ap (λ c. is_subscribed (client.session.latches.entries c))
               (sym (same_is channel (channel_in client.session thread waiter) parts.1))
               ∙ silent in

@@ -88,7 +88,7 @@ placed_changes thread found reply before after changes own heard placed t within
     by (inl same) =
         subst (PlacedIn after) (sym same)
         (record {
-        placed = subst (PlacedWith after.session thread) (sym changes.waiter) (own_in found own);
+          placed = subst (PlacedWith after.session thread) (sym changes.waiter) (own_in found own);
         })
     by (inr apart) =
         placed_on before after t within changes.id (changes.waiters t apart)
@@ -107,8 +107,8 @@ module _ (thread : ℕ) (reply : Option Reply) (before after : Client) (within :
   place_begun waiter changes fits outside heard =
       placed_changes thread (Some waiter) reply before after changes
       (record {
-      fits = fits;
-      joining = λ inside. absurd (false≢true (sym outside ∙ inside));
+        fits = fits;
+        joining = λ inside. absurd (false≢true (sym outside ∙ inside));
       })
       (λ t under apart q there. heard q) placed
 
@@ -139,10 +139,10 @@ module _ (thread : ℕ) (reply : Option Reply) (before after : Client) (within :
     place_restaged stage changes fits old new heard =
         placed_changes thread (Some (at_stage stage waiter)) reply before after changes
         (record {
-        fits = fits;
-        joining = λ inside.
-            new ∙ sym old ∙ placed_was.joining inside
-            ∙ ap not (sym (heard (channel_in before.session thread waiter)));
+          fits = fits;
+          joining = λ inside.
+              new ∙ sym old ∙ placed_was.joining inside
+              ∙ ap not (sym (heard (channel_in before.session thread waiter)));
         })
         (λ t under apart q there. heard q) placed
 
@@ -197,13 +197,13 @@ module _ (thread : ℕ) (reply : Option Reply) (before after : Client) (within :
       place_registered joined changes fits want joining entry =
           placed_changes thread (Some joined) reply before after changes
           (record {
-          fits = fits;
-          joining = λ inside.
-              joining
-              ∙ ap (λ x. not (is_subscribed x))
-              (sym entry.here
-              ∙ (λ i. after.session.latches.entries
-              (channel_for (owner_in before.session thread) (sym want i))));
+            fits = fits;
+            joining = λ inside.
+                joining
+                ∙ ap (λ x. not (is_subscribed x))
+                (sym entry.here
+                ∙ (λ i. after.session.latches.entries
+                (channel_for (owner_in before.session thread) (sym want i))));
           })
           heard placed
         where

@@ -87,7 +87,7 @@ drains : (n : ℕ) (c : ChannelOf) (e : LatchEntry) (os : List Order) (has : Boo
     → Fact n c e os has box
 drains n c e os has box push other fact =
     let sum : e.sent
-        ≡ e.acknowledged + (subscribes_waiting c os + (0 + acknowledgements_in_flight c box)) =
+    ≡ e.acknowledged + (subscribes_waiting c os + (0 + acknowledgements_in_flight c box)) =
     subst
     (λ b. e.sent
     ≡ e.acknowledged + (subscribes_waiting c os + (one_if b + acknowledgements_in_flight c box)))
@@ -157,7 +157,7 @@ executes_elsewhere n c e os has box subscribe other apart fact = by subscribe fa
     by false before = record { sum = omega (arith, before.sum); few = before.few }
     by true before =
         let sum : e.sent
-            ≡ e.acknowledged + ((0 + subscribes_waiting c os) + acknowledgements_in_flight c box) =
+        ≡ e.acknowledged + ((0 + subscribes_waiting c os) + acknowledgements_in_flight c box) =
         subst
         (λ b. e.sent
         ≡ e.acknowledged + ((one_if b + subscribes_waiting c os) + acknowledgements_in_flight c box))

@@ -406,8 +406,8 @@ module _ (n : ℕ) (peak : ChannelOf → ℕ) (client : Client) (connection : Co
               (with_latches
               (leave_at (channel_in client.session thread waiter) client.session.latches)
               client.session) {
-              watches = watches;
-              generation = generation;
+                watches = watches;
+                generation = generation;
               }) refl refl) refl e refl))
               reply
           by_registered false e =
@@ -436,20 +436,20 @@ module _ (n : ℕ) (peak : ChannelOf → ℕ) (client : Client) (connection : Co
               → Then (if b
               then with_ticket thread
               (record {
-              mode = waiter.mode;
-              want = waiter.want;
-              stage = waiter.stage;
-              registered = true;
+                mode = waiter.mode;
+                want = waiter.want;
+                stage = waiter.stage;
+                registered = true;
               }) Ready
               (with_latches
               (register_at (channel_in client.session thread waiter) client.session.latches)
               client.session)
               else with_stage thread
               (record {
-              mode = waiter.mode;
-              want = waiter.want;
-              stage = waiter.stage;
-              registered = true;
+                mode = waiter.mode;
+                want = waiter.want;
+                stage = waiter.stage;
+                registered = true;
               }) Joining
               (with_latches
               (register_at (channel_in client.session thread waiter) client.session.latches)
@@ -457,10 +457,10 @@ module _ (n : ℕ) (peak : ChannelOf → ℕ) (client : Client) (connection : Co
           by true e =
               registers n peak client connection facts thread within waiter was
               (record {
-              mode = waiter.mode;
-              want = waiter.want;
-              stage = Ready (next_count client.session.turn);
-              registered = true;
+                mode = waiter.mode;
+                want = waiter.want;
+                stage = Ready (next_count client.session.turn);
+                registered = true;
               })
               _ few
               (changes_both thread _ None client
@@ -468,16 +468,16 @@ module _ (n : ℕ) (peak : ChannelOf → ℕ) (client : Client) (connection : Co
               (with_latches
               (register_at (channel_in client.session thread waiter) client.session.latches)
               client.session) {
-              turn = next_count client.session.turn;
+                turn = next_count client.session.turn;
               }) refl refl)
               outside refl refl refl (ap not (sym e)) refl refl
           by false e =
               registers n peak client connection facts thread within waiter was
               (record {
-              mode = waiter.mode;
-              want = waiter.want;
-              stage = Joining;
-              registered = true;
+                mode = waiter.mode;
+                want = waiter.want;
+                stage = Joining;
+                registered = true;
               })
               _ few
               (changes_both thread _ None client

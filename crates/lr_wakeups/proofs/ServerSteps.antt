@@ -212,7 +212,7 @@ module _ (n : ℕ) (peak : ChannelOf → ℕ) (client : Client) (connection : Co
               let waits = counts_one q client t within (facts.counted q)
               (blocked_registered q client t blocked) in
               let here : (deliver_at channel client.session.latches).entries q
-                  ≡ deliver_in One (client.session.latches.entries q) =
+              ≡ deliver_in One (client.session.latches.entries q) =
               ap (deliver_at channel client.session.latches).entries is ∙ entry.here
               ∙ ap (λ (c : ChannelOf). deliver_in (channel_wakes c.kind)
               (client.session.latches.entries c)) (sym is)
@@ -283,10 +283,10 @@ module _ (n : ℕ) (peak : ChannelOf → ℕ) (client : Client) (connection : Co
             → is_subscribed (acknowledge_in (client.session.latches.entries channel)) ≡ hears
             → Facts n peak
             (record client {
-            session = if hears
-                then with_joined channel
-                (with_latches (acknowledge_at channel client.session.latches) client.session)
-                else with_latches (acknowledge_at channel client.session.latches) client.session;
+              session = if hears
+                  then with_joined channel
+                  (with_latches (acknowledge_at channel client.session.latches) client.session)
+                  else with_latches (acknowledge_at channel client.session.latches) client.session;
             })
             (record connection { outbox = rest })
         by false e = record {

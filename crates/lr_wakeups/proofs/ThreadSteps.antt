@@ -54,7 +54,7 @@ module _ (n : ℕ) (peak : ChannelOf → ℕ) (client : Client) (connection : Co
       → FitsStage waiter.stage waiter.registered → waiter.registered ≡ false
       → Facts n peak
       (record client {
-      session = with_waiter thread (Some waiter) (record client.session { turn = turn });
+        session = with_waiter thread (Some waiter) (record client.session { turn = turn });
       })
       connection
   begun waiter turn idle fits outside = record {
@@ -80,7 +80,7 @@ module _ (n : ℕ) (peak : ChannelOf → ℕ) (client : Client) (connection : Co
 
       changes : ChangesThread thread (Some waiter) (client.replies thread) client
           (record client {
-          session = with_waiter thread (Some waiter) (record client.session { turn = turn });
+            session = with_waiter thread (Some waiter) (record client.session { turn = turn });
           })
       changes = changes_waiter thread (Some waiter) client (record client.session { turn = turn })
           refl refl
@@ -129,17 +129,17 @@ module _ (n : ℕ) (peak : ChannelOf → ℕ) (client : Client) (connection : Co
         → is_awake_at stage None waiter.want.function ≡ true
         → Facts n peak
         (record client {
-        session = with_stage thread waiter stage (record client.session { turn = turn });
+          session = with_stage thread waiter stage (record client.session { turn = turn });
         })
         connection
     awoken stage turn fits old new not_asked awake =
         restaged stage None after
         (record {
-        changes = changes;
-        fits = fits;
-        before_ = old;
-        then_ = new;
-        reply_fits = λ asked. refl;
+          changes = changes;
+          fits = fits;
+          before_ = old;
+          then_ = new;
+          reply_fits = λ asked. refl;
         })
         (latch_facts n peak client connection facts) (λ q. refl) (λ q. refl)
         (λ q.
@@ -156,13 +156,13 @@ module _ (n : ℕ) (peak : ChannelOf → ℕ) (client : Client) (connection : Co
 
         changes : ChangesThread thread (Some (at_stage stage waiter)) None client
             (record client {
-            session = with_stage thread waiter stage (record client.session { turn = turn });
+              session = with_stage thread waiter stage (record client.session { turn = turn });
             })
         changes =
             subst
             (λ r. ChangesThread thread (Some (at_stage stage waiter)) r client
             (record client {
-            session = with_stage thread waiter stage (record client.session { turn = turn });
+              session = with_stage thread waiter stage (record client.session { turn = turn });
             }))
             no_answer
             (changes_waiter thread (Some (at_stage stage waiter)) client
@@ -176,23 +176,23 @@ module _ (n : ℕ) (peak : ChannelOf → ℕ) (client : Client) (connection : Co
         → is_awake_at stage None waiter.want.function ≡ true
         → Facts n peak
         (record client {
-        session = with_stage thread waiter stage
-            (record
-            (with_latches
-            (take_permit_at (channel_in client.session thread waiter) client.session.latches)
-            client.session) {
-            turn = turn;
-            });
+          session = with_stage thread waiter stage
+              (record
+              (with_latches
+              (take_permit_at (channel_in client.session thread waiter) client.session.latches)
+              client.session) {
+                turn = turn;
+              });
         })
         connection
     permitted stage turn inside fits old new not_asked awake =
         restaged stage None after
         (record {
-        changes = changes;
-        fits = fits;
-        before_ = old;
-        then_ = new;
-        reply_fits = λ asked. refl;
+          changes = changes;
+          fits = fits;
+          before_ = old;
+          then_ = new;
+          reply_fits = λ asked. refl;
         })
         (latch_facts_permit n client.session.latches connection
         (latch_facts n peak client connection facts) (channel_in client.session thread waiter))
@@ -215,7 +215,7 @@ module _ (n : ℕ) (peak : ChannelOf → ℕ) (client : Client) (connection : Co
               (with_latches
               (take_permit_at (channel_in client.session thread waiter) client.session.latches)
               client.session) {
-              turn = turn;
+                turn = turn;
               });
         }
 
@@ -232,25 +232,25 @@ module _ (n : ℕ) (peak : ChannelOf → ℕ) (client : Client) (connection : Co
 
         changes : ChangesThread thread (Some (at_stage stage waiter)) None client
             (record client {
-            session = with_stage thread waiter stage
-                (record
-                (with_latches
-                (take_permit_at (channel_in client.session thread waiter) client.session.latches)
-                client.session) {
-                turn = turn;
-                });
+              session = with_stage thread waiter stage
+                  (record
+                  (with_latches
+                  (take_permit_at (channel_in client.session thread waiter) client.session.latches)
+                  client.session) {
+                    turn = turn;
+                  });
             })
         changes =
             subst
             (λ r. ChangesThread thread (Some (at_stage stage waiter)) r client
             (record client {
-            session = with_stage thread waiter stage
-                (record
-                (with_latches
-                (take_permit_at (channel_in client.session thread waiter) client.session.latches)
-                client.session) {
-                turn = turn;
-                });
+              session = with_stage thread waiter stage
+                  (record
+                  (with_latches
+                  (take_permit_at (channel_in client.session thread waiter) client.session.latches)
+                  client.session) {
+                    turn = turn;
+                  });
             }))
             no_answer
             (changes_waiter thread (Some (at_stage stage waiter)) client
@@ -258,7 +258,7 @@ module _ (n : ℕ) (peak : ChannelOf → ℕ) (client : Client) (connection : Co
             (with_latches
             (take_permit_at (channel_in client.session thread waiter) client.session.latches)
             client.session) {
-            turn = turn;
+              turn = turn;
             }) refl refl)
 
         -- it is registered at its own channel alone
@@ -279,12 +279,12 @@ module _ (n : ℕ) (peak : ChannelOf → ℕ) (client : Client) (connection : Co
     slept refusal refused =
         restaged (Asleep refusal) None after
         (record {
-        changes = changes;
-        fits = subst (λ s. FitsStage s waiter.registered) refused
-            (placed_was thread None client after within facts.placed waiter was).fits;
-        before_ = ap is_joining_at refused;
-        then_ = refl;
-        reply_fits = λ asked. refl;
+          changes = changes;
+          fits = subst (λ s. FitsStage s waiter.registered) refused
+              (placed_was thread None client after within facts.placed waiter was).fits;
+          before_ = ap is_joining_at refused;
+          then_ = refl;
+          reply_fits = λ asked. refl;
         })
         (latch_facts n peak client connection facts) (λ q. refl) (λ q. refl)
         (λ q.
@@ -302,13 +302,13 @@ module _ (n : ℕ) (peak : ChannelOf → ℕ) (client : Client) (connection : Co
 
         changes : ChangesThread thread (Some (at_stage (Asleep refusal) waiter)) None client
             (record client {
-            session = with_stage thread waiter (Asleep refusal) client.session;
+              session = with_stage thread waiter (Asleep refusal) client.session;
             })
         changes =
             subst
             (λ r. ChangesThread thread (Some (at_stage (Asleep refusal) waiter)) r client
             (record client {
-            session = with_stage thread waiter (Asleep refusal) client.session;
+              session = with_stage thread waiter (Asleep refusal) client.session;
             }))
             no_answer
             (changes_waiter thread (Some (at_stage (Asleep refusal) waiter)) client client.session
@@ -321,11 +321,11 @@ module _ (n : ℕ) (peak : ChannelOf → ℕ) (client : Client) (connection : Co
     answered asking reply asked in_time =
         restaged waiter.stage (Some reply) after
         (record {
-        changes = changes;
-        fits = subst (λ s. FitsStage s waiter.registered) (sym asked) tt;
-        before_ = ap is_joining_at asked;
-        then_ = ap is_joining_at asked;
-        reply_fits = λ not_asked. absurd (false≢true (sym not_asked ∙ ap is_asked_at asked));
+          changes = changes;
+          fits = subst (λ s. FitsStage s waiter.registered) (sym asked) tt;
+          before_ = ap is_joining_at asked;
+          then_ = ap is_joining_at asked;
+          reply_fits = λ not_asked. absurd (false≢true (sym not_asked ∙ ap is_asked_at asked));
         })
         (latch_facts n peak client connection facts) (λ q. refl) (λ q. refl)
         (λ q.
@@ -354,10 +354,11 @@ module _ (n : ℕ) (peak : ChannelOf → ℕ) (client : Client) (connection : Co
             let own_is : q ≡ channel_in client.session thread waiter =
             same_is q (channel_in client.session thread waiter) parts.1 in
             let busy = in_time.timer
-            (ap (λ (c : ChannelOf). channel_wakes c.kind) (sym own_is) ∙ one) blocked in
-            (asking.at + busy.0,
-            ap (λ r. due_by_reply asking.at (Some r)) busy.1,
-            subst (λ c. asking.at + busy.0 ≤ peak c) (sym own_is) busy.2)
+            (ap (λ (c : ChannelOf). channel_wakes c.kind) (sym own_is) ∙ one) blocked in (
+              asking.at + busy.0,
+              ap (λ r. due_by_reply asking.at (Some r)) busy.1,
+              subst (λ c. asking.at + busy.0 ≤ peak c) (sym own_is) busy.2,
+            )
 
     -- The thread takes a reply that refuses its call, and was registered.
     pub refused_again : (asking : Asking) (reply : Reply) → waiter.stage ≡ Asked asking
@@ -365,19 +366,19 @@ module _ (n : ℕ) (peak : ChannelOf → ℕ) (client : Client) (connection : Co
         → waiter.registered ≡ true
         → Facts n peak
         (record (with_reply thread None client) {
-        session = with_stage thread waiter
-            (Refused (record { due = due_after asking.at reply; seen = asking.seen }))
-            client.session;
+          session = with_stage thread waiter
+              (Refused (record { due = due_after asking.at reply; seen = asking.seen }))
+              client.session;
         })
         connection
     refused_again asking reply asked replied blocked inside =
         restaged stage None after
         (record {
-        changes = changes;
-        fits = inside;
-        before_ = ap is_joining_at asked;
-        then_ = refl;
-        reply_fits = λ not_asked. refl;
+          changes = changes;
+          fits = inside;
+          before_ = ap is_joining_at asked;
+          then_ = refl;
+          reply_fits = λ not_asked. refl;
         })
         (latch_facts n peak client connection facts) (λ q. refl) (λ q. refl)
         (λ q.
@@ -402,9 +403,9 @@ module _ (n : ℕ) (peak : ChannelOf → ℕ) (client : Client) (connection : Co
             waiter))
             None client
             (record (with_reply thread None client) {
-            session = with_stage thread waiter
-                (Refused (record { due = due_after asking.at reply; seen = asking.seen }))
-                client.session;
+              session = with_stage thread waiter
+                  (Refused (record { due = due_after asking.at reply; seen = asking.seen }))
+                  client.session;
             })
         changes =
             changes_both thread

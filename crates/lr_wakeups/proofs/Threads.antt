@@ -42,8 +42,8 @@ pub changes_both : (thread : ℕ) (found : Option Waiter) (reply : Option Reply)
     → session.client ≡ before.session.client → session.waiters ≡ before.session.waiters
     → ChangesThread thread found reply before
     (record {
-    session = with_waiter thread found session;
-    replies = put ◌==◌ before.replies thread reply;
+      session = with_waiter thread found session;
+      replies = put ◌==◌ before.replies thread reply;
     })
 changes_both thread found reply before session id same = record {
   id = id;
