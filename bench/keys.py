@@ -4,7 +4,8 @@
     bench/keys.py                           both, over 200,000 locks and over 50,000 names
 
 The memory is the growth of the greatest resident size, from a schedule that takes 20,000 locks of different names to
-one that takes LOCKS more. Each lock also has an entry in the stored history, which is part of the growth.
+one that takes LOCKS more. Each lock also has an entry in the stored history. What an entry takes is measured in the
+same way, by calls that take nothing else, and is told apart.
 
 The leases run out in a schedule of TRIES times a request for a lock and a tick of a millisecond, over the names in
 turn. In one the lease is as long as it takes to come to the name again, so that at each tick but the first ones one
@@ -16,6 +17,7 @@ import os
 import subprocess
 import sys
 import tempfile
+import threading
 
 from play import LEASE, check, request, seconds, taking, thread_of, write_lines
 from program import PROGRAM, must_be_built
@@ -23,27 +25,41 @@ from program import PROGRAM, must_be_built
 FEW = 20_000
 
 
-def resident(path):
-    """The greatest resident size of a run of a schedule, in bytes."""
-    with open(path, "rb") as schedule:
-        run = subprocess.Popen([PROGRAM, "play"], stdin=schedule, stdout=subprocess.DEVNULL)
-        _, status, usage = os.wait4(run.pid, 0)
-    if status != 0:
-        sys.exit("lockd play ended with the wait status %d" % status)
-    run.returncode = 0
-    return usage.ru_maxrss * 1024
+def resident(lines):
+    """The greatest resident size of a run of a schedule, in bytes, once all its lines were answered.
+
+    It is read before the program ends: the size that the system gives afterwards also counts this script, of which
+    the program's process was a copy for a moment.
+    """
+    run = subprocess.Popen([PROGRAM, "play"], stdin=subprocess.PIPE, stdout=subprocess.PIPE)
+    schedule = "".join(line + "\n" for line in lines).encode()
+    writer = threading.Thread(target=run.stdin.write, args=(schedule,))
+    writer.start()
+    for _ in lines:
+        run.stdout.readline()
+    writer.join()
+    with open("/proc/%d/status" % run.pid) as status:
+        size = next(int(line.split()[1]) for line in status if line.startswith("VmHWM:"))
+    run.stdin.close()
+    if run.wait() != 0:
+        sys.exit("lockd play ended with the status %d" % run.returncode)
+    return size * 1024
+
+
+def growth(few, many, more):
+    """Bytes for each of so many things more."""
+    return (resident(many) - resident(few)) / more
 
 
 def memory(folder, locks):
-    """Bytes a held lock, with its entry of the history."""
-    sizes = []
-    for many in (FEW, FEW + locks):
-        path = os.path.join(folder, "locks-%d.txt" % many)
-        lines = taking(many)
-        write_lines(path, lines)
-        check(path, lines)
-        sizes.append(resident(path))
-    return (sizes[1] - sizes[0]) / locks
+    """Bytes a held lock with its entry of the history, and bytes an entry."""
+    few, many = taking(FEW), taking(FEW + locks)
+    path = os.path.join(folder, "locks.txt")
+    write_lines(path, many)
+    check(path, many)
+    held = growth(few, many, locks)
+    entry = growth(["force x"] * FEW, ["force x"] * (FEW + locks), locks)
+    return held, entry
 
 
 def ticking(names, tries, lease):
@@ -75,7 +91,9 @@ def main():
     must_be_built()
 
     with tempfile.TemporaryDirectory() as folder:
-        print("a held lock takes %.0f bytes, with its entry" % memory(folder, options.locks))
+        held, entry = memory(folder, options.locks)
+        print("an entry of the history takes %.0f bytes" % entry)
+        print("a held lock takes %.0f bytes beside its entry" % (held - entry))
         lasting = passing(folder, options.names, options.tries, LEASE, options.runs)
         ending = passing(folder, options.names, options.tries, options.names, options.runs)
         print("%d requests and ticks: %.2f s, and %.2f s where a lease runs out at each" % (options.tries, lasting, ending))

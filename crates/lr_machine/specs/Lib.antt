@@ -1,0 +1,9 @@
+pub mod RepliedValue
+pub mod Clients
+pub mod World
+pub mod Shown
+pub mod Deeds
+pub mod Within
+pub mod EventText
+pub mod Transcript
+pub mod Sound
