@@ -1,5 +1,6 @@
-use Rattle.std.proofs.Common.{◌∙◌}
+use Rattle.std.proofs.Common.{ap, subst, ◌∙◌}
 use Rattle.lr_keys.specs.KeySpace.{entry_at}
+use Rattle.lr_expirable.specs.Leases.{members_entry}
 use Rattle.lr_expirable.specs.Step.{IsFirstGone}
 use Rattle.lr_expirable.proofs.ChangeLemmas.{has-live, has-live-still, live-left}
 use Rattle.lr_expirable.proofs.expired.remove_expired.Goals as goal
