@@ -1,4 +1,5 @@
-use Rattle.std.proofs.Common.{◌+◌, ◌-◌, is_some, ◌∷◌, sym, ap, subst, ◌∙◌, arith}
+use Rattle.std.proofs.Common.{◌+◌, ◌-◌, ◌<◌, is_some, ◌∷◌, length, sym, ap, subst, ◌∙◌, arith}
+use Rattle.lr_limits.specs.Limits.{member_limit}
 use Rattle.lr_keys.specs.declared.value_kind.ValueKind.TheVariants.{Zset}
 use Rattle.lr_keys.specs.KeySpace.{IsPrepared, entry_at}
 use Rattle.lr_keys.proofs.TableLaws.{bytes_eq-other}
@@ -67,7 +68,7 @@ returns-clause-step c = λ object at live ready.
     let none = not_there keys number_key leases_key object at keys.moment id c.args.lease
     (sym found ∙ c.if-is_some.false) in
     let all = c.len-taken.ensures object.leases at.leases_at in
-    let room = omega (arith, all, c.if-taken.false) in
+    let room : length object.leases < member_limit = omega (arith, all, c.if-taken.false) in
     let early = deadline_early keys.moment c.args.lease c.moment.ensures.live.moment c.requires.lease in
     let now = c.moment.ensures.moment in
     granted_step keys number_key leases_key object at keys.moment id c.args.lease c.in-Some.number is
