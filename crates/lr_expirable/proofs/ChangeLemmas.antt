@@ -158,21 +158,12 @@ none-there (m ∷ ms) moment e = absurd (none_some m e)
 
 -- ---- all that are gone
 
--- before any is removed
-pub has-live : (entry : Option KeyEntry) (members : Scores) (moment : ℕ)
-    → entry ≡ members_entry members → is_in_order members ≡ true → HasLive entry moment members
-has-live entry members moment stands order = record {
-  left = members;
-  stands = stands;
-  order = order;
-  live = refl;
-}
-
 -- when the first has been removed
 pub has-live-still : (old new : Option KeyEntry) (moment : ℕ) (members : Scores) (member : List ℕ)
-    → (has : HasLive old moment members) → (gone : IsFirstGone moment has.left member)
+    → (has : HasLive old moment members) (now : ℕ) → now ≡ moment
+    → (gone : IsFirstGone now has.left member)
     → new ≡ members_entry gone.rest → HasLive new moment members
-has-live-still old new moment members member has gone stands = record {
+has-live-still old new moment members member has now same gone stands = record {
   left = gone.rest;
   stands = stands;
   order =
@@ -185,7 +176,7 @@ has-live-still old new moment members member has gone stands = record {
 }
   where
     dead : is_live gone.deadline moment ≡ false
-    dead = grind (arith, gone.gone, nat_tests)
+    dead = grind (arith, same, gone.gone, nat_tests)
 
 -- when none is left to remove
 pub live-left : (old new : Option KeyEntry) (moment : ℕ) (leases : List PermitLease)
