@@ -1,3 +1,9 @@
+ghost use Rattle.std.specs.Prelude.{◌≤◌};
+ghost use Rattle.lr_limits.specs.Limits.{last_moment};
+ghost use Rattle.lr_names.specs.Owner.{IsThread};
+ghost use Rattle.lr_objects.specs.declared.want.Mode.TheVariants as modes;
+ghost use Rattle.lr_waiting.specs.Begin.{CanBegin};
+
 use crate::{Pushed, SessionFault, SessionState};
 use lr_names::{Channel, Due, Kind, Name, Push, Wakes};
 use lr_objects::{Function, Lease, LockFunction, Mode, Remaining, Reply, Want};
@@ -7,10 +13,12 @@ use std::test::Fail;
 use uuid::Uuid;
 
 // A request for a lock, with a lease of 1,000 ms.
-fn lock(name: Name) -> Want {
+fn lock(name: &Name) -> Want
+    ensures { CanBegin modes.Long result }
+{
     Want {
         function: Function::Lock(LockFunction::Try),
-        name,
+        name: *name,
         lease: Lease::For(1_000),
         number: 0,
         id: Uuid::nil(),
@@ -25,12 +33,16 @@ fn is_phase(session: &SessionState, thread: u32, phase: Phase) -> bool {
     session.phase(thread) == phase
 }
 
-fn begins(session: &mut SessionState, thread: u32, want: &Want) -> bool {
-    session.begin(thread, Mode::Long, want).is_ok()
+fn begins(session: &mut SessionState, thread: u32, name: &Name) -> bool
+    requires { IsThread thread }
+{
+    session.begin(thread, Mode::Long, &lock(name)).is_ok()
 }
 
 // Whether a thread sends its call by the ticket that it has.
-fn asks(session: &mut SessionState, thread: u32, moment: u64) -> bool {
+fn asks(session: &mut SessionState, thread: u32, moment: u64) -> bool
+    requires { moment ≤ last_moment }
+{
     match session.ticket(thread) {
         Some(ask) => session.ask(ask, moment).is_ok(),
         None => false,
@@ -54,8 +66,10 @@ fn hears(session: &mut SessionState, channel: Channel, threads: usize) -> bool {
 }
 
 // Whether a thread whose call was refused while nobody heard the channel waits for that.
-fn joins(session: &mut SessionState, thread: u32, want: &Want) -> bool {
-    begins(session, thread, want)
+fn joins(session: &mut SessionState, thread: u32, name: &Name) -> bool
+    requires { IsThread thread }
+{
+    begins(session, thread, name)
         && asks(session, thread, 90)
         && busy(session, thread, Phase::Joining)
 }
@@ -68,9 +82,9 @@ fn sleeps(session: &mut SessionState, thread: u32) -> bool {
 }
 
 // Whether two threads share one subscription, and sleep.
-fn share(session: &mut SessionState, channel: Channel, want: &Want) -> bool {
-    joins(session, 1, want)
-        && joins(session, 2, want)
+fn share(session: &mut SessionState, channel: Channel, name: &Name) -> bool {
+    joins(session, 1, name)
+        && joins(session, 2, name)
         && session.next_order().is_some()
         && session.next_order().is_none()
         && hears(session, channel, 2)
@@ -111,30 +125,30 @@ fn ends(session: &mut SessionState) -> bool {
         && matches!(session.next_order(), Some(order) if !order.subscribe)
 }
 
-fn threads_share(alloc: Global, channel: Channel, want: &Want) -> bool {
+fn threads_share(alloc: Global, channel: Channel, name: &Name) -> bool {
     let mut session = client(alloc);
     session.reserve().is_ok()
-        && share(&mut session, channel, want)
+        && share(&mut session, channel, name)
         && falls_due(&mut session)
         && hands_on(&mut session, channel)
         && ends(&mut session)
 }
 
 // Whether an old ticket lets nobody send a call.
-fn old_ticket(alloc: Global, want: &Want) -> bool {
+fn old_ticket(alloc: Global, name: &Name) -> bool {
     let mut session = client(alloc);
     let old = Ask { thread: 1, turn: 0 };
-    begins(&mut session, 1, want)
+    begins(&mut session, 1, name)
         && session.ask(old, 90).err() == Some(SessionFault::NotNow(Phase::Fresh))
         && asks(&mut session, 1, 90)
 }
 
 // Whether a client that was cut off refuses every step of a thread.
-fn refuses(session: &mut SessionState, want: &Want) -> bool {
+fn refuses(session: &mut SessionState, name: &Name) -> bool {
     let cut = SessionFault::NotNow(Phase::Cut);
     session.cut();
     is_phase(session, 1, Phase::Cut)
-        && session.begin(1, Mode::Once, want) == Err(cut)
+        && session.begin(1, Mode::Long, &lock(name)) == Err(cut)
         && session.check(1, 90) == Err(cut)
         && session.wake(1) == Err(cut)
         && session.fire(1, 90) == Err(cut)
@@ -142,27 +156,26 @@ fn refuses(session: &mut SessionState, want: &Want) -> bool {
 }
 
 // Whether it does so in each phase.
-fn cut_off(alloc: Global, channel: Channel, want: &Want) -> bool {
+fn cut_off(alloc: Global, channel: Channel, name: &Name) -> bool {
     let mut idle = client(alloc);
     let mut fresh = client(alloc);
     let mut joining = client(alloc);
     let mut asleep = client(alloc);
-    refuses(&mut idle, want)
-        && begins(&mut fresh, 1, want)
-        && refuses(&mut fresh, want)
-        && joins(&mut joining, 1, want)
-        && refuses(&mut joining, want)
-        && share(&mut asleep, channel, want)
-        && refuses(&mut asleep, want)
+    refuses(&mut idle, name)
+        && begins(&mut fresh, 1, name)
+        && refuses(&mut fresh, name)
+        && joins(&mut joining, 1, name)
+        && refuses(&mut joining, name)
+        && share(&mut asleep, channel, name)
+        && refuses(&mut asleep, name)
 }
 
 #[test]
 fn clients_wait(rt: HostRuntime) -> Result<(), Fail> {
     let name = Name::parse(b"a")?;
-    let want = lock(name);
     let channel = Channel::of(Kind::Mutex, &name);
-    assert!(rt; threads_share(rt.alloc(), channel, &want));
-    assert!(rt; old_ticket(rt.alloc(), &want));
-    assert!(rt; cut_off(rt.alloc(), channel, &want));
+    assert!(rt; threads_share(rt.alloc(), channel, &name));
+    assert!(rt; old_ticket(rt.alloc(), &name));
+    assert!(rt; cut_off(rt.alloc(), channel, &name));
     Ok(())
 }
