@@ -27,7 +27,7 @@ use Rattle.lr_waiting.specs.Stand.{in_flight, is_message_on}
 use Rattle.lr_model.proofs.SameChannel.{same_is, same_self}
 use Rattle.lr_wakeups.specs.Counting.{count_below, one_if}
 use Rattle.lr_wakeups.specs.Outstanding.{IsAccounted}
-use Rattle.lr_wakeups.specs.Orders.{OrdersMatch, connection_after_order}
+use Rattle.lr_wakeups.specs.Orders.{OrdersMatch, IsHeard, connection_after_order}
 use Rattle.lr_wakeups.specs.Registered.{is_registered, registered_on, IsCounted}
 use Rattle.lr_wakeups.specs.Joining.{IsPlaced, PlacedWith, PlacedIn}
 use Rattle.lr_wakeups.specs.Standing.{is_blocked_at, blocked_with, is_blocked, Stands, IsCovered, ByMessage, ByPermit, ByAwake, ByTimer}
@@ -506,6 +506,16 @@ module _ (n : ℕ) (peak : ChannelOf → ℕ) (client : Client) (connection : Co
               (has_channel q connection) connection.outbox (facts.accounted q) (facts.matched q)
               (heard_where_blocked client q t (facts.placed t within) blocked)).subscribed)))
               (facts.covered q)
+
+  -- where the client hears a channel, all is told
+  pub facts_heard : (channel : ChannelOf)
+      → is_subscribed (client.session.latches.entries channel) ≡ true
+      → IsHeard channel client.session.latches.orders (has_channel channel connection)
+      connection.outbox
+  facts_heard channel heard =
+      is_heard n channel (client.session.latches.entries channel) client.session.latches.orders
+      (has_channel channel connection) connection.outbox (facts.accounted channel)
+      (facts.matched channel) heard
 
   -- peaks may rise
   pub facts_raised : (then_ : ChannelOf → ℕ) → ((q : ChannelOf) → peak q ≤ then_ q)
