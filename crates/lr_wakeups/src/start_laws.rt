@@ -1,4 +1,4 @@
-ghost use Rattle.std.specs.Prelude.{◌≡◌, ℕ, List, [], true};
+ghost use Rattle.std.specs.Prelude.{◌≡◌, ℕ, suc, List, [], true};
 ghost use Rattle.lr_names.specs.Channel.{ChannelOf};
 ghost use Rattle.lr_model.specs.Board.{Connection, has_channel, closed_connection};
 ghost use Rattle.lr_waiting.specs.Latch.{is_subscribed};
@@ -17,6 +17,12 @@ pub fn the_facts_at_start()
 pub fn a_cut_keeps_the_facts()
     ensures { (n : ℕ) (peak : ChannelOf → ℕ) (client : Client)
         → Facts n peak (cut_client client) closed_connection }
+{}
+
+/// The facts where more orders may have been made.
+pub fn more_orders_keep_the_facts()
+    ensures { (n : ℕ) (peak : ChannelOf → ℕ) (client : Client) (connection : Connection)
+        → Facts n peak client connection → Facts (suc n) peak client connection }
 {}
 
 /// Where a client hears a channel, all is told: no order of it waits, no acknowledgement of an order
