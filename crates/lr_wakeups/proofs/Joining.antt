@@ -1,15 +1,14 @@
 -- Threads join exactly while their client doesn't hear their channel, at each change.
-use Rattle.std.proofs.Common.{◌≡◌, ℕ, ◌+◌, ◌<◌, ◌≤◌, ◌^◌, nat_lt, ◌==◌, List, ◌∷◌, Bool, true, false, not, ◌&&◌, Option, Some, None, refl, ap, sym, ◌∙◌, subst, arith, if◌then◌else◌, ◌⊎◌, inl, inr}
+use Rattle.std.proofs.Common.{◌≡◌, ℕ, ◌≤◌, Bool, true, false, not, Option, Some, None, refl, ap, sym, ◌∙◌, subst, ◌⊎◌, inl, inr}
 use Rattle.std.proofs.lemmas.Bool.{and_from, false≢true, cases_eq}
 use Rattle.lr_limits.specs.Limits.{thread_limit}
 use Rattle.lr_names.specs.Channel.{ChannelOf, channel_wakes}
 use Rattle.lr_objects.specs.declared.reply.Reply.{Reply}
-use Rattle.lr_waiting.specs.declared.latch.LatchEntry.{LatchEntry}
 use Rattle.lr_waiting.specs.declared.waiter.Stage.{Stage}
 use Rattle.lr_waiting.specs.declared.waiter.Waiter.{Waiter}
 use Rattle.lr_model.specs.Board.{same_channel}
 use Rattle.lr_waiting.specs.Latch.{is_subscribed, leave_in, register_in}
-use Rattle.lr_waiting.specs.Session.{Session, at_stage, channel_in, channel_for, owner_in, entry_for, with_latches, is_joining_at}
+use Rattle.lr_waiting.specs.Session.{at_stage, channel_in, channel_for, owner_in, with_latches, is_joining_at}
 use Rattle.lr_waiting.specs.Client.{Client, waiter_in}
 use Rattle.lr_model.proofs.SameChannel.{same_is, same_self}
 use Rattle.lr_wakeups.specs.Registered.{registered_with, is_registered, IsCounted}
@@ -88,7 +87,7 @@ placed_changes thread found reply before after changes own heard placed t within
     by (inl same) =
         subst (PlacedIn after) (sym same)
         (record {
-        placed = subst (PlacedWith after.session thread) (sym changes.waiter) (own_in found own);
+          placed = subst (PlacedWith after.session thread) (sym changes.waiter) (own_in found own);
         })
     by (inr apart) =
         placed_on before after t within changes.id (changes.waiters t apart)
@@ -107,8 +106,8 @@ module _ (thread : ℕ) (reply : Option Reply) (before after : Client) (within :
   place_begun waiter changes fits outside heard =
       placed_changes thread (Some waiter) reply before after changes
       (record {
-      fits = fits;
-      joining = λ inside. absurd (false≢true (sym outside ∙ inside));
+        fits = fits;
+        joining = λ inside. absurd (false≢true (sym outside ∙ inside));
       })
       (λ t under apart q there. heard q) placed
 
@@ -139,10 +138,10 @@ module _ (thread : ℕ) (reply : Option Reply) (before after : Client) (within :
     place_restaged stage changes fits old new heard =
         placed_changes thread (Some (at_stage stage waiter)) reply before after changes
         (record {
-        fits = fits;
-        joining = λ inside.
-            new ∙ sym old ∙ placed_was.joining inside
-            ∙ ap not (sym (heard (channel_in before.session thread waiter)));
+          fits = fits;
+          joining = λ inside.
+              new ∙ sym old ∙ placed_was.joining inside
+              ∙ ap not (sym (heard (channel_in before.session thread waiter)));
         })
         (λ t under apart q there. heard q) placed
 
@@ -197,13 +196,13 @@ module _ (thread : ℕ) (reply : Option Reply) (before after : Client) (within :
       place_registered joined changes fits want joining entry =
           placed_changes thread (Some joined) reply before after changes
           (record {
-          fits = fits;
-          joining = λ inside.
-              joining
-              ∙ ap (λ x. not (is_subscribed x))
-              (sym entry.here
-              ∙ (λ i. after.session.latches.entries
-              (channel_for (owner_in before.session thread) (sym want i))));
+            fits = fits;
+            joining = λ inside.
+                joining
+                ∙ ap (λ x. not (is_subscribed x))
+                (sym entry.here
+                ∙ (λ i. after.session.latches.entries
+                (channel_for (owner_in before.session thread) (sym want i))));
           })
           heard placed
         where

@@ -1,5 +1,5 @@
 -- Outstanding acknowledgements stay accounted for at each change.
-use Rattle.std.proofs.Common.{◌≡◌, ℕ, suc, ◌+◌, ◌<◌, ◌≤◌, ◌^◌, ◌%◌, ◌==◌, List, [], ◌∷◌, ◌++◌, Bool, true, false, not, refl, ap, sym, ◌∙◌, subst, arith, if◌then◌else◌, Some}
+use Rattle.std.proofs.Common.{◌≡◌, ℕ, suc, ◌+◌, ◌<◌, ◌^◌, List, [], ◌∷◌, ◌++◌, Bool, true, false, refl, ap, ◌∙◌, subst, arith, Some}
 use Rattle.lr_names.specs.Channel.{ChannelOf, channel_wakes}
 use Rattle.lr_names.specs.declared.kind.Wakes.{Wakes}
 use Rattle.lr_names.specs.declared.kind.Wakes.TheVariants.{One, All}
@@ -10,7 +10,7 @@ use Rattle.lr_waiting.specs.declared.latch.Order.{Order}
 use Rattle.lr_model.specs.Board.{same_channel}
 use Rattle.lr_waiting.specs.Latch.{register_first, leave_last, leave_more, deliver_to, deliver_in, acknowledge_in}
 use Rattle.lr_model.proofs.SameChannel.{same_self}
-use Rattle.lr_wakeups.specs.Counting.{one_if, count_of}
+use Rattle.lr_wakeups.specs.Counting.{one_if}
 use Rattle.lr_wakeups.specs.Outstanding.{IsAccounted, is_subscribe_on, is_acknowledgement_on, subscribes_waiting, acknowledgements_in_flight}
 use Rattle.lr_wakeups.proofs.Counts.{count_of-push}
 use Rattle.lr_wakeups.proofs.Entries.{kept_or_none, acknowledged_by, delivered_by}
@@ -87,7 +87,7 @@ drains : (n : ℕ) (c : ChannelOf) (e : LatchEntry) (os : List Order) (has : Boo
     → Fact n c e os has box
 drains n c e os has box push other fact =
     let sum : e.sent
-        ≡ e.acknowledged + (subscribes_waiting c os + (0 + acknowledgements_in_flight c box)) =
+    ≡ e.acknowledged + (subscribes_waiting c os + (0 + acknowledgements_in_flight c box)) =
     subst
     (λ b. e.sent
     ≡ e.acknowledged + (subscribes_waiting c os + (one_if b + acknowledgements_in_flight c box)))
@@ -157,7 +157,7 @@ executes_elsewhere n c e os has box subscribe other apart fact = by subscribe fa
     by false before = record { sum = omega (arith, before.sum); few = before.few }
     by true before =
         let sum : e.sent
-            ≡ e.acknowledged + ((0 + subscribes_waiting c os) + acknowledgements_in_flight c box) =
+        ≡ e.acknowledged + ((0 + subscribes_waiting c os) + acknowledgements_in_flight c box) =
         subst
         (λ b. e.sent
         ≡ e.acknowledged + ((one_if b + subscribes_waiting c os) + acknowledgements_in_flight c box))

@@ -1,7 +1,7 @@
 -- All facts after each row of a thread.
-use Rattle.std.proofs.Common.{◌≡◌, ℕ, suc, ◌+◌, ◌<◌, ◌≤◌, ◌^◌, ◌/◌, Bool, true, false, not, ◌&&◌, Option, Some, None, refl, ap, sym, ◌∙◌, subst, arith, if◌then◌else◌}
+use Rattle.std.proofs.Common.{◌≡◌, ℕ, suc, ◌<◌, ◌≤◌, ◌^◌, Bool, true, false, not, Option, Some, None, refl, ap, sym, ◌∙◌, subst, if◌then◌else◌}
 use Rattle.std.specs.Option.{option_map}
-use Rattle.std.proofs.lemmas.Bool.{and_parts, false≢true}
+use Rattle.std.proofs.lemmas.Bool.{and_parts}
 use Rattle.std.proofs.lemmas.Option.{same_Some}
 use Rattle.lr_limits.specs.Limits.{thread_limit}
 use Rattle.lr_names.specs.Channel.{ChannelOf}
@@ -23,10 +23,10 @@ use Rattle.lr_waiting.specs.declared.watch.Watch.{Watch}
 use Rattle.lr_waiting.specs.declared.watch.WatchKey.{WatchKey}
 use Rattle.lr_model.specs.Board.{Connection}
 use Rattle.lr_waiting.specs.Latch.{is_subscribed, is_due, next_count, take_permit_at, register_in, register_at, leave_at, checked_in, woken_in}
-use Rattle.lr_waiting.specs.Session.{Session, with_waiter, with_stage, with_ticket, with_latches, without_waiter, of_waiter, begin_at, begin_row, new_waiter, ask_at, ask_row, asking_for, leaving_want, leaving_function, may_wait, waits_for, channel_in, entry_for, key_in, is_joining_at, due_after, watch_begun, watch_ended, watched_by, taken, refused, registered, take_at, take_row, checked, check_at, check_row, woken, wake_at, wake_row, fire_at, fire_row, quit, quit_at, quit_row}
+use Rattle.lr_waiting.specs.Session.{Session, with_waiter, with_stage, with_ticket, with_latches, without_waiter, of_waiter, begin_at, begin_row, new_waiter, ask_at, ask_row, asking_for, leaving_want, leaving_function, may_wait, waits_for, channel_in, entry_for, key_in, is_joining_at, due_after, watch_begun, watch_ended, watched_by, refused, registered, take_at, take_row, checked, check_at, check_row, woken, wake_at, wake_row, fire_at, fire_row, quit_at, quit_row}
 use Rattle.lr_waiting.specs.Client.{Client, waiter_in, client_row, with_reply, asked_at, asked_by, asked_of, take_with, take_reply}
 use Rattle.lr_wakeups.specs.Joining.{FitsStage}
-use Rattle.lr_wakeups.specs.Answered.{asked_with, is_asked_at}
+use Rattle.lr_wakeups.specs.Answered.{is_asked_at}
 use Rattle.lr_wakeups.specs.Standing.{IsInTime}
 use Rattle.lr_wakeups.specs.Facts.{Facts}
 use Rattle.lr_wakeups.proofs.LatchFacts.{latch_facts_later}
@@ -406,8 +406,8 @@ module _ (n : ℕ) (peak : ChannelOf → ℕ) (client : Client) (connection : Co
               (with_latches
               (leave_at (channel_in client.session thread waiter) client.session.latches)
               client.session) {
-              watches = watches;
-              generation = generation;
+                watches = watches;
+                generation = generation;
               }) refl refl) refl e refl))
               reply
           by_registered false e =
@@ -436,20 +436,20 @@ module _ (n : ℕ) (peak : ChannelOf → ℕ) (client : Client) (connection : Co
               → Then (if b
               then with_ticket thread
               (record {
-              mode = waiter.mode;
-              want = waiter.want;
-              stage = waiter.stage;
-              registered = true;
+                mode = waiter.mode;
+                want = waiter.want;
+                stage = waiter.stage;
+                registered = true;
               }) Ready
               (with_latches
               (register_at (channel_in client.session thread waiter) client.session.latches)
               client.session)
               else with_stage thread
               (record {
-              mode = waiter.mode;
-              want = waiter.want;
-              stage = waiter.stage;
-              registered = true;
+                mode = waiter.mode;
+                want = waiter.want;
+                stage = waiter.stage;
+                registered = true;
               }) Joining
               (with_latches
               (register_at (channel_in client.session thread waiter) client.session.latches)
@@ -457,10 +457,10 @@ module _ (n : ℕ) (peak : ChannelOf → ℕ) (client : Client) (connection : Co
           by true e =
               registers n peak client connection facts thread within waiter was
               (record {
-              mode = waiter.mode;
-              want = waiter.want;
-              stage = Ready (next_count client.session.turn);
-              registered = true;
+                mode = waiter.mode;
+                want = waiter.want;
+                stage = Ready (next_count client.session.turn);
+                registered = true;
               })
               _ few
               (changes_both thread _ None client
@@ -468,16 +468,16 @@ module _ (n : ℕ) (peak : ChannelOf → ℕ) (client : Client) (connection : Co
               (with_latches
               (register_at (channel_in client.session thread waiter) client.session.latches)
               client.session) {
-              turn = next_count client.session.turn;
+                turn = next_count client.session.turn;
               }) refl refl)
               outside refl refl refl (ap not (sym e)) refl refl
           by false e =
               registers n peak client connection facts thread within waiter was
               (record {
-              mode = waiter.mode;
-              want = waiter.want;
-              stage = Joining;
-              registered = true;
+                mode = waiter.mode;
+                want = waiter.want;
+                stage = Joining;
+                registered = true;
               })
               _ few
               (changes_both thread _ None client

@@ -1,26 +1,21 @@
 -- What is told to stand for a sleeper is what stands: never nothing, and no timer that is too late.
-use Rattle.std.proofs.Common.{◌≡◌, ℕ, suc, ◌+◌, ◌<◌, ◌≤◌, ◌==◌, nat_lt, min, List, [], ◌∷◌, Bool, true, false, ◌&&◌, ◌||◌, Option, Some, None, refl, ap, sym, ◌∙◌, subst, arith, if◌then◌else◌, ◌⊎◌, inl, inr}
+use Rattle.std.proofs.Common.{◌≡◌, ℕ, ◌+◌, ◌≤◌, ◌==◌, nat_lt, min, List, [], ◌∷◌, Bool, true, false, ◌||◌, Option, Some, None, refl, ap, sym, ◌∙◌, subst, arith, if◌then◌else◌, ◌⊎◌, inl, inr}
 use Rattle.std.specs.List.{list_any}
 use Rattle.std.proofs.lemmas.Bool.{and_from, or_cases, or_left, or_right, false≢true, eqb-true, lt-ltb}
 use Rattle.std.proofs.lemmas.Option.{same_Some}
 use Rattle.lr_limits.specs.Limits.{thread_limit}
-use Rattle.lr_names.specs.Channel.{ChannelOf, channel_wakes}
-use Rattle.lr_names.specs.declared.kind.Wakes.{Wakes}
-use Rattle.lr_names.specs.declared.kind.Wakes.TheVariants.{One}
-use Rattle.lr_waiting.specs.declared.stand.Stand.{Stand}
+use Rattle.lr_names.specs.Channel.{ChannelOf}
 use Rattle.lr_waiting.specs.declared.stand.Stand.TheVariants as stands
 use Rattle.lr_waiting.specs.declared.waiter.Refusal.{Refusal}
 use Rattle.lr_waiting.specs.declared.waiter.Stage.{Stage}
 use Rattle.lr_waiting.specs.declared.waiter.Stage.TheVariants.{Asleep}
-use Rattle.lr_waiting.specs.declared.waiter.Waiter.{Waiter}
-use Rattle.lr_model.specs.Board.{same_channel, Connection, numbers_below}
-use Rattle.lr_model.specs.History.{State}
+use Rattle.lr_model.specs.Board.{same_channel, Connection}
 use Rattle.lr_model.proofs.Numbers.{below_has}
 use Rattle.lr_model.proofs.SameChannel.{same_self}
 use Rattle.lr_waiting.specs.Session.{channel_in}
-use Rattle.lr_waiting.specs.Client.{Client, waiter_in}
-use Rattle.lr_waiting.specs.Stand.{waits_at, in_flight, is_awake, due_of, lesser, least_of, threads_with, least_due, timer_or_nobody, stand_of_one, stand_by, stand_at, stand_with, stand_of}
-use Rattle.lr_wakeups.specs.Joining.{FitsStage, PlacedWith, PlacedIn}
+use Rattle.lr_waiting.specs.Client.{Client}
+use Rattle.lr_waiting.specs.Stand.{waits_at, in_flight, is_awake, due_of, lesser, least_of, threads_with, least_due, timer_or_nobody, stand_of_one, stand_by, stand_at, stand_with}
+use Rattle.lr_wakeups.specs.Joining.{FitsStage, PlacedWith}
 use Rattle.lr_wakeups.specs.Standing.{is_blocked_at, blocked_with, is_blocked, Stands, ByMessage, ByPermit, ByAwake, ByTimer, StandsWithin, NoLostWakeup}
 use Rattle.lr_wakeups.specs.Facts.{Facts}
 

@@ -1,40 +1,31 @@
 -- All facts after each step of a thread.
-use Rattle.std.proofs.Common.{◌≡◌, ℕ, suc, ◌+◌, ◌<◌, ◌≤◌, ◌^◌, ◌==◌, List, Bool, true, false, not, ◌&&◌, Option, Some, None, refl, ap, sym, ◌∙◌, subst, arith, if◌then◌else◌}
-use Rattle.std.specs.Option.{option_map}
+use Rattle.std.proofs.Common.{◌≡◌, ℕ, suc, ◌+◌, ◌<◌, ◌≤◌, ◌^◌, true, false, not, ◌&&◌, Option, Some, None, refl, ap, sym, ◌∙◌, subst}
 use Rattle.std.proofs.lemmas.Bool.{and_parts, false≢true}
-use Rattle.std.proofs.lemmas.Option.{same_Some}
 use Rattle.lr_limits.specs.Limits.{thread_limit}
 use Rattle.lr_names.specs.Channel.{ChannelOf, channel_wakes}
 use Rattle.lr_names.specs.declared.kind.Wakes.TheVariants.{One}
 use Rattle.lr_objects.specs.Reply.{blocks}
 use Rattle.lr_objects.specs.declared.reply.Reply.{Reply}
-use Rattle.lr_objects.specs.declared.reply.Reply.TheVariants as replies
-use Rattle.lr_objects.specs.declared.want.Mode.{Mode}
-use Rattle.lr_objects.specs.declared.want.Want.{Want}
-use Rattle.lr_waiting.specs.declared.latch.Checked.{Checked}
-use Rattle.lr_waiting.specs.declared.latch.Checked.TheVariants as checks
 use Rattle.lr_waiting.specs.declared.latch.LatchEntry.{LatchEntry}
-use Rattle.lr_waiting.specs.declared.latch.Woken.{Woken}
-use Rattle.lr_waiting.specs.declared.latch.Woken.TheVariants as wakings
 use Rattle.lr_waiting.specs.declared.waiter.Asking.{Asking}
 use Rattle.lr_waiting.specs.declared.waiter.Refusal.{Refusal}
 use Rattle.lr_waiting.specs.declared.waiter.Stage.{Stage}
-use Rattle.lr_waiting.specs.declared.waiter.Stage.TheVariants.{Fresh, Asked, Joining, Ready, Refused, Asleep, Leaving}
+use Rattle.lr_waiting.specs.declared.waiter.Stage.TheVariants.{Asked, Refused, Asleep}
 use Rattle.lr_waiting.specs.declared.waiter.Waiter.{Waiter}
 use Rattle.lr_model.specs.Board.{Connection, same_channel}
-use Rattle.lr_waiting.specs.Latch.{Latches, is_subscribed, is_due, next_count, register_in, register_at, leave_in, leave_at, take_permit, take_permit_at, checked_in, woken_in}
-use Rattle.lr_waiting.specs.Session.{Session, at_stage, channel_in, entry_for, with_waiter, with_stage, with_latches, with_ticket, is_joining_at, new_waiter, due_after, asking_for}
+use Rattle.lr_waiting.specs.Latch.{Latches, is_subscribed, register_in, register_at, leave_in, leave_at, take_permit, take_permit_at}
+use Rattle.lr_waiting.specs.Session.{at_stage, channel_in, entry_for, with_waiter, with_stage, with_latches, is_joining_at, due_after}
 use Rattle.lr_waiting.specs.Client.{Client, waiter_in, with_reply}
 use Rattle.lr_waiting.specs.Stand.{waits_at, is_awake_at, due_at, due_by_reply}
-use Rattle.lr_wakeups.specs.Registered.{registered_with, is_registered, IsCounted}
-use Rattle.lr_wakeups.specs.Joining.{FitsStage, IsPlaced}
-use Rattle.lr_wakeups.specs.Answered.{asked_with, is_asked_at, HasReplyIfAsked}
+use Rattle.lr_wakeups.specs.Registered.{registered_with, is_registered}
+use Rattle.lr_wakeups.specs.Joining.{FitsStage}
+use Rattle.lr_wakeups.specs.Answered.{asked_with, is_asked_at}
 use Rattle.lr_wakeups.specs.Standing.{is_blocked_at, IsCovered, IsInTime}
 use Rattle.lr_wakeups.specs.Facts.{Facts}
 use Rattle.lr_model.proofs.SameChannel.{same_is}
 use Rattle.lr_wakeups.proofs.Tables.{put_here, put_there}
 use Rattle.lr_wakeups.proofs.EntryChanges.{ChangesEntry, entry_put, entry_left, entry_registered, by_channel, permits_registered}
-use Rattle.lr_wakeups.proofs.LatchFacts.{LatchFacts, latch_facts_later, latch_facts_registered, latch_facts_left, latch_facts_permit}
+use Rattle.lr_wakeups.proofs.LatchFacts.{LatchFacts, latch_facts_registered, latch_facts_left, latch_facts_permit}
 use Rattle.lr_wakeups.proofs.Threads.{ChangesThread, changes_waiter, changes_both}
 use Rattle.lr_wakeups.proofs.Registered.{count_begun, count_restaged, count_ended, count_left, count_registered}
 use Rattle.lr_wakeups.proofs.Joining.{place_begun, place_ended, placed_was, place_restaged, place_left, place_registered}
@@ -54,7 +45,7 @@ module _ (n : ℕ) (peak : ChannelOf → ℕ) (client : Client) (connection : Co
       → FitsStage waiter.stage waiter.registered → waiter.registered ≡ false
       → Facts n peak
       (record client {
-      session = with_waiter thread (Some waiter) (record client.session { turn = turn });
+        session = with_waiter thread (Some waiter) (record client.session { turn = turn });
       })
       connection
   begun waiter turn idle fits outside = record {
@@ -80,7 +71,7 @@ module _ (n : ℕ) (peak : ChannelOf → ℕ) (client : Client) (connection : Co
 
       changes : ChangesThread thread (Some waiter) (client.replies thread) client
           (record client {
-          session = with_waiter thread (Some waiter) (record client.session { turn = turn });
+            session = with_waiter thread (Some waiter) (record client.session { turn = turn });
           })
       changes = changes_waiter thread (Some waiter) client (record client.session { turn = turn })
           refl refl
@@ -129,17 +120,17 @@ module _ (n : ℕ) (peak : ChannelOf → ℕ) (client : Client) (connection : Co
         → is_awake_at stage None waiter.want.function ≡ true
         → Facts n peak
         (record client {
-        session = with_stage thread waiter stage (record client.session { turn = turn });
+          session = with_stage thread waiter stage (record client.session { turn = turn });
         })
         connection
     awoken stage turn fits old new not_asked awake =
         restaged stage None after
         (record {
-        changes = changes;
-        fits = fits;
-        before_ = old;
-        then_ = new;
-        reply_fits = λ asked. refl;
+          changes = changes;
+          fits = fits;
+          before_ = old;
+          then_ = new;
+          reply_fits = λ asked. refl;
         })
         (latch_facts n peak client connection facts) (λ q. refl) (λ q. refl)
         (λ q.
@@ -156,13 +147,13 @@ module _ (n : ℕ) (peak : ChannelOf → ℕ) (client : Client) (connection : Co
 
         changes : ChangesThread thread (Some (at_stage stage waiter)) None client
             (record client {
-            session = with_stage thread waiter stage (record client.session { turn = turn });
+              session = with_stage thread waiter stage (record client.session { turn = turn });
             })
         changes =
             subst
             (λ r. ChangesThread thread (Some (at_stage stage waiter)) r client
             (record client {
-            session = with_stage thread waiter stage (record client.session { turn = turn });
+              session = with_stage thread waiter stage (record client.session { turn = turn });
             }))
             no_answer
             (changes_waiter thread (Some (at_stage stage waiter)) client
@@ -176,23 +167,23 @@ module _ (n : ℕ) (peak : ChannelOf → ℕ) (client : Client) (connection : Co
         → is_awake_at stage None waiter.want.function ≡ true
         → Facts n peak
         (record client {
-        session = with_stage thread waiter stage
-            (record
-            (with_latches
-            (take_permit_at (channel_in client.session thread waiter) client.session.latches)
-            client.session) {
-            turn = turn;
-            });
+          session = with_stage thread waiter stage
+              (record
+              (with_latches
+              (take_permit_at (channel_in client.session thread waiter) client.session.latches)
+              client.session) {
+                turn = turn;
+              });
         })
         connection
     permitted stage turn inside fits old new not_asked awake =
         restaged stage None after
         (record {
-        changes = changes;
-        fits = fits;
-        before_ = old;
-        then_ = new;
-        reply_fits = λ asked. refl;
+          changes = changes;
+          fits = fits;
+          before_ = old;
+          then_ = new;
+          reply_fits = λ asked. refl;
         })
         (latch_facts_permit n client.session.latches connection
         (latch_facts n peak client connection facts) (channel_in client.session thread waiter))
@@ -215,7 +206,7 @@ module _ (n : ℕ) (peak : ChannelOf → ℕ) (client : Client) (connection : Co
               (with_latches
               (take_permit_at (channel_in client.session thread waiter) client.session.latches)
               client.session) {
-              turn = turn;
+                turn = turn;
               });
         }
 
@@ -232,25 +223,25 @@ module _ (n : ℕ) (peak : ChannelOf → ℕ) (client : Client) (connection : Co
 
         changes : ChangesThread thread (Some (at_stage stage waiter)) None client
             (record client {
-            session = with_stage thread waiter stage
-                (record
-                (with_latches
-                (take_permit_at (channel_in client.session thread waiter) client.session.latches)
-                client.session) {
-                turn = turn;
-                });
+              session = with_stage thread waiter stage
+                  (record
+                  (with_latches
+                  (take_permit_at (channel_in client.session thread waiter) client.session.latches)
+                  client.session) {
+                    turn = turn;
+                  });
             })
         changes =
             subst
             (λ r. ChangesThread thread (Some (at_stage stage waiter)) r client
             (record client {
-            session = with_stage thread waiter stage
-                (record
-                (with_latches
-                (take_permit_at (channel_in client.session thread waiter) client.session.latches)
-                client.session) {
-                turn = turn;
-                });
+              session = with_stage thread waiter stage
+                  (record
+                  (with_latches
+                  (take_permit_at (channel_in client.session thread waiter) client.session.latches)
+                  client.session) {
+                    turn = turn;
+                  });
             }))
             no_answer
             (changes_waiter thread (Some (at_stage stage waiter)) client
@@ -258,7 +249,7 @@ module _ (n : ℕ) (peak : ChannelOf → ℕ) (client : Client) (connection : Co
             (with_latches
             (take_permit_at (channel_in client.session thread waiter) client.session.latches)
             client.session) {
-            turn = turn;
+              turn = turn;
             }) refl refl)
 
         -- it is registered at its own channel alone
@@ -279,12 +270,12 @@ module _ (n : ℕ) (peak : ChannelOf → ℕ) (client : Client) (connection : Co
     slept refusal refused =
         restaged (Asleep refusal) None after
         (record {
-        changes = changes;
-        fits = subst (λ s. FitsStage s waiter.registered) refused
-            (placed_was thread None client after within facts.placed waiter was).fits;
-        before_ = ap is_joining_at refused;
-        then_ = refl;
-        reply_fits = λ asked. refl;
+          changes = changes;
+          fits = subst (λ s. FitsStage s waiter.registered) refused
+              (placed_was thread None client after within facts.placed waiter was).fits;
+          before_ = ap is_joining_at refused;
+          then_ = refl;
+          reply_fits = λ asked. refl;
         })
         (latch_facts n peak client connection facts) (λ q. refl) (λ q. refl)
         (λ q.
@@ -302,13 +293,13 @@ module _ (n : ℕ) (peak : ChannelOf → ℕ) (client : Client) (connection : Co
 
         changes : ChangesThread thread (Some (at_stage (Asleep refusal) waiter)) None client
             (record client {
-            session = with_stage thread waiter (Asleep refusal) client.session;
+              session = with_stage thread waiter (Asleep refusal) client.session;
             })
         changes =
             subst
             (λ r. ChangesThread thread (Some (at_stage (Asleep refusal) waiter)) r client
             (record client {
-            session = with_stage thread waiter (Asleep refusal) client.session;
+              session = with_stage thread waiter (Asleep refusal) client.session;
             }))
             no_answer
             (changes_waiter thread (Some (at_stage (Asleep refusal) waiter)) client client.session
@@ -321,11 +312,11 @@ module _ (n : ℕ) (peak : ChannelOf → ℕ) (client : Client) (connection : Co
     answered asking reply asked in_time =
         restaged waiter.stage (Some reply) after
         (record {
-        changes = changes;
-        fits = subst (λ s. FitsStage s waiter.registered) (sym asked) tt;
-        before_ = ap is_joining_at asked;
-        then_ = ap is_joining_at asked;
-        reply_fits = λ not_asked. absurd (false≢true (sym not_asked ∙ ap is_asked_at asked));
+          changes = changes;
+          fits = subst (λ s. FitsStage s waiter.registered) (sym asked) tt;
+          before_ = ap is_joining_at asked;
+          then_ = ap is_joining_at asked;
+          reply_fits = λ not_asked. absurd (false≢true (sym not_asked ∙ ap is_asked_at asked));
         })
         (latch_facts n peak client connection facts) (λ q. refl) (λ q. refl)
         (λ q.
@@ -354,10 +345,11 @@ module _ (n : ℕ) (peak : ChannelOf → ℕ) (client : Client) (connection : Co
             let own_is : q ≡ channel_in client.session thread waiter =
             same_is q (channel_in client.session thread waiter) parts.1 in
             let busy = in_time.timer
-            (ap (λ (c : ChannelOf). channel_wakes c.kind) (sym own_is) ∙ one) blocked in
-            (asking.at + busy.0,
-            ap (λ r. due_by_reply asking.at (Some r)) busy.1,
-            subst (λ c. asking.at + busy.0 ≤ peak c) (sym own_is) busy.2)
+            (ap (λ (c : ChannelOf). channel_wakes c.kind) (sym own_is) ∙ one) blocked in (
+              asking.at + busy.0,
+              ap (λ r. due_by_reply asking.at (Some r)) busy.1,
+              subst (λ c. asking.at + busy.0 ≤ peak c) (sym own_is) busy.2,
+            )
 
     -- The thread takes a reply that refuses its call, and was registered.
     pub refused_again : (asking : Asking) (reply : Reply) → waiter.stage ≡ Asked asking
@@ -365,19 +357,19 @@ module _ (n : ℕ) (peak : ChannelOf → ℕ) (client : Client) (connection : Co
         → waiter.registered ≡ true
         → Facts n peak
         (record (with_reply thread None client) {
-        session = with_stage thread waiter
-            (Refused (record { due = due_after asking.at reply; seen = asking.seen }))
-            client.session;
+          session = with_stage thread waiter
+              (Refused (record { due = due_after asking.at reply; seen = asking.seen }))
+              client.session;
         })
         connection
     refused_again asking reply asked replied blocked inside =
         restaged stage None after
         (record {
-        changes = changes;
-        fits = inside;
-        before_ = ap is_joining_at asked;
-        then_ = refl;
-        reply_fits = λ not_asked. refl;
+          changes = changes;
+          fits = inside;
+          before_ = ap is_joining_at asked;
+          then_ = refl;
+          reply_fits = λ not_asked. refl;
         })
         (latch_facts n peak client connection facts) (λ q. refl) (λ q. refl)
         (λ q.
@@ -402,9 +394,9 @@ module _ (n : ℕ) (peak : ChannelOf → ℕ) (client : Client) (connection : Co
             waiter))
             None client
             (record (with_reply thread None client) {
-            session = with_stage thread waiter
-                (Refused (record { due = due_after asking.at reply; seen = asking.seen }))
-                client.session;
+              session = with_stage thread waiter
+                  (Refused (record { due = due_after asking.at reply; seen = asking.seen }))
+                  client.session;
             })
         changes =
             changes_both thread
