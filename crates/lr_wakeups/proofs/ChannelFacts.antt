@@ -1,7 +1,7 @@
 -- Facts of one channel of a client: what is so of its entry, of the orders that wait, of whether the
 -- connection has the channel, and of what is on its way. Such a fact says for each named change that
 -- it stays; that every other channel stays is proved here once.
-use Rattle.std.proofs.Common.{◌≡◌, ℕ, suc, ◌+◌, ◌<◌, ◌≤◌, ◌^◌, ◌==◌, List, [], ◌∷◌, ◌++◌, Bool, true, false, not, ◌&&◌, Some, None, Option, refl, ap, sym, ◌∙◌, subst, arith, if◌then◌else◌, cond, drop, slice_get}
+use Rattle.std.proofs.Common.{◌≡◌, ℕ, suc, ◌<◌, ◌^◌, ◌==◌, List, [], ◌∷◌, ◌++◌, Bool, true, false, not, ◌&&◌, Some, Option, refl, sym, subst, if◌then◌else◌}
 use Rattle.std.proofs.lemmas.Bool.{eqb-true, eqb-false, false≢true}
 use Rattle.lr_names.specs.Channel.{ChannelOf, channel_wakes}
 use Rattle.lr_names.specs.declared.kind.Wakes.{Wakes}
@@ -11,9 +11,8 @@ use Rattle.lr_names.specs.declared.post.Push.TheVariants.{Subscribed, Unsubscrib
 use Rattle.lr_waiting.specs.declared.latch.LatchEntry.{LatchEntry}
 use Rattle.lr_waiting.specs.declared.latch.Order.{Order}
 use Rattle.lr_model.specs.Board.{same_channel, Connection, has_channel, has_room, is_overrun, closed_connection, with_item, dropped_connection, connection_after_post, connection_after_subscribe, connection_after_unsubscribe}
-use Rattle.lr_waiting.specs.Latch.{Latches, no_entry, no_latches, register_first, register_more, register_at, leave_last, leave_more, leave_at, take_permit, take_permit_at, acknowledge_in, acknowledge_at, deliver_in, deliver_at, with_entry, with_order, without_first_order}
-use Rattle.lr_model.specs.Table.{put}
-use Rattle.lr_model.proofs.SameChannel.{same_is, same_self, same_symm}
+use Rattle.lr_waiting.specs.Latch.{Latches, no_entry, no_latches, register_first, register_more, register_at, leave_last, leave_more, leave_at, take_permit, take_permit_at, acknowledge_in, acknowledge_at, deliver_in, deliver_at, with_entry, with_order}
+use Rattle.lr_model.proofs.SameChannel.{same_is}
 use Rattle.lr_wakeups.specs.Outstanding.{is_acknowledgement_on}
 use Rattle.lr_wakeups.specs.Orders.{connection_after_order}
 use Rattle.lr_wakeups.proofs.Tables.{at_channel}

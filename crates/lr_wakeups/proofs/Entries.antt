@@ -1,11 +1,9 @@
 -- Entries after a change.
-use Rattle.std.proofs.Common.{◌≡◌, ℕ, ◌+◌, ◌-◌, ◌<◌, ◌≤◌, ◌^◌, ◌%◌, ◌==◌, nat_lt, Bool, true, false, not, ◌&&◌, ◌||◌, refl, ap, sym, ◌∙◌, subst, arith, if◌then◌else◌}
-use Rattle.std.proofs.lemmas.Bool.{eqb-true, eqb-false, ne_eqb, or_parts, false≢true}
-use Rattle.std.proofs.lemmas.Bool.Decides.{nat_tests}
+use Rattle.std.proofs.Common.{◌≡◌, ◌==◌, nat_lt, Bool, true, false, not, refl, sym, if◌then◌else◌}
+use Rattle.std.proofs.lemmas.Bool.{eqb-true, eqb-false, or_parts, false≢true}
 use Rattle.lr_names.specs.declared.kind.Wakes.{Wakes}
-use Rattle.lr_names.specs.declared.kind.Wakes.TheVariants.{One, All}
 use Rattle.lr_waiting.specs.declared.latch.LatchEntry.{LatchEntry}
-use Rattle.lr_waiting.specs.Latch.{no_entry, is_kept, if_kept, is_subscribed, next_count, acknowledge_in, leave_more, deliver_to, deliver_in, hand_on}
+use Rattle.lr_waiting.specs.Latch.{no_entry, is_kept, if_kept, next_count, acknowledge_in, deliver_to, deliver_in}
 
 -- what is so of an entry, and of none where it would be forgotten, is so of what is kept
 pub kept_or_none : (P : LatchEntry → Type 0) (entry : LatchEntry) → P entry

@@ -1,13 +1,13 @@
 -- A change of one entry: every other entry stays.
-use Rattle.std.proofs.Common.{◌≡◌, ℕ, suc, ◌+◌, ◌-◌, ◌<◌, ◌≤◌, ◌==◌, nat_lt, min, Bool, true, false, not, ◌&&◌, refl, ap, sym, ◌∙◌, subst, arith, if◌then◌else◌}
-use Rattle.std.proofs.lemmas.Bool.{eqb-true, eqb-false}
+use Rattle.std.proofs.Common.{◌≡◌, ℕ, ◌+◌, ◌-◌, ◌<◌, ◌≤◌, ◌==◌, nat_lt, Bool, true, false, ◌&&◌, refl, ap, sym, ◌∙◌, subst, arith, if◌then◌else◌}
+use Rattle.std.proofs.lemmas.Bool.{eqb-true}
 use Rattle.std.proofs.lemmas.Bool.Decides.{nat_tests}
 use Rattle.lr_names.specs.Channel.{ChannelOf, channel_wakes}
 use Rattle.lr_names.specs.declared.kind.Wakes.{Wakes}
 use Rattle.lr_names.specs.declared.kind.Wakes.TheVariants.{One, All}
 use Rattle.lr_waiting.specs.declared.latch.LatchEntry.{LatchEntry}
 use Rattle.lr_model.specs.Board.{same_channel}
-use Rattle.lr_waiting.specs.Latch.{Latches, no_entry, is_subscribed, next_count, register_first, register_more, register_in, register_at, leave_last, leave_more, leave_in, leave_at, take_permit, deliver_to, deliver_in, acknowledge_in, with_entry, with_order}
+use Rattle.lr_waiting.specs.Latch.{Latches, is_subscribed, register_first, register_more, register_in, register_at, leave_last, leave_more, leave_in, leave_at, deliver_to, deliver_in, acknowledge_in, with_entry, with_order}
 use Rattle.lr_model.specs.Table.{put}
 use Rattle.lr_model.proofs.SameChannel.{same_is, same_self, same_symm}
 use Rattle.lr_wakeups.proofs.Entries.{kept_or_none, acknowledged_by, delivered_by}

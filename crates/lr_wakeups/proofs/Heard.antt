@@ -1,5 +1,5 @@
 -- Where a client hears a channel, all is told.
-use Rattle.std.proofs.Common.{◌≡◌, ℕ, suc, ◌+◌, ◌<◌, ◌≤◌, ◌==◌, nat_lt, List, [], ◌∷◌, Bool, true, false, not, ◌&&◌, refl, ap, sym, ◌∙◌, subst, arith}
+use Rattle.std.proofs.Common.{◌≡◌, ℕ, ◌+◌, ◌==◌, nat_lt, List, [], ◌∷◌, Bool, true, false, ◌&&◌, refl, subst, arith}
 use Rattle.std.proofs.lemmas.Bool.{and_parts, eqb-true, false≢true}
 use Rattle.lr_names.specs.Channel.{ChannelOf}
 use Rattle.lr_names.specs.declared.post.Push.{Push}
@@ -8,7 +8,7 @@ use Rattle.lr_waiting.specs.declared.latch.Order.{Order}
 use Rattle.lr_model.specs.Board.{same_channel}
 use Rattle.lr_waiting.specs.Latch.{is_subscribed}
 use Rattle.lr_wakeups.specs.Counting.{one_if, count_of}
-use Rattle.lr_wakeups.specs.Outstanding.{IsAccounted, is_subscribe_on, subscribes_waiting}
+use Rattle.lr_wakeups.specs.Outstanding.{IsAccounted, subscribes_waiting}
 use Rattle.lr_wakeups.specs.Orders.{OrdersMatch, LeadsTo, TurnsOver, is_wanted, is_order_on, IsHeard}
 
 -- what has no subscription isn't led to one without an order to subscribe

@@ -1,26 +1,25 @@
 -- Threads that joined may ask once more when their client hears the channel; all others stay.
-use Rattle.std.proofs.Common.{◌≡◌, ℕ, ◌+◌, ◌<◌, ◌≤◌, Bool, true, false, not, ◌&&◌, Option, Some, None, refl, ap, sym, ◌∙◌, subst, if◌then◌else◌}
-use Rattle.std.proofs.lemmas.Bool.{and_parts, and_from, false≢true}
+use Rattle.std.proofs.Common.{◌≡◌, ℕ, ◌≤◌, Bool, true, false, not, ◌&&◌, Option, Some, None, refl, ap, sym, ◌∙◌, subst, if◌then◌else◌}
+use Rattle.std.proofs.lemmas.Bool.{and_parts, false≢true}
 use Rattle.lr_limits.specs.Limits.{thread_limit}
 use Rattle.lr_names.specs.Channel.{ChannelOf}
 use Rattle.lr_objects.specs.declared.kinds.Function.{Function}
 use Rattle.lr_objects.specs.declared.reply.Reply.{Reply}
-use Rattle.lr_waiting.specs.declared.latch.LatchEntry.{LatchEntry}
 use Rattle.lr_waiting.specs.declared.waiter.Stage.{Stage}
 use Rattle.lr_waiting.specs.declared.waiter.Stage.TheVariants.{Joining, Ready}
 use Rattle.lr_waiting.specs.declared.waiter.Waiter.{Waiter}
 use Rattle.lr_model.specs.Board.{same_channel}
 use Rattle.lr_waiting.specs.Latch.{is_subscribed, acknowledge_in, acknowledge_at}
-use Rattle.lr_waiting.specs.Session.{at_stage, channel_in, channel_for, owner_in, with_latches, is_joining_at, joins, is_joining, joining_ticket, joined_waiter, with_joined}
+use Rattle.lr_waiting.specs.Session.{at_stage, channel_in, with_latches, is_joining_at, joins, is_joining, joining_ticket, joined_waiter, with_joined}
 use Rattle.lr_waiting.specs.Client.{Client, waiter_in}
 use Rattle.lr_waiting.specs.Stand.{waits_at, is_awake_at, awake_with, is_awake, due_at, due_with, due_of}
-use Rattle.lr_model.proofs.SameChannel.{same_is, same_self}
+use Rattle.lr_model.proofs.SameChannel.{same_is}
 use Rattle.lr_wakeups.specs.Registered.{registered_with, is_registered}
 use Rattle.lr_wakeups.specs.Joining.{FitsStage, IsPlaced, PlacedWith, PlacedIn}
 use Rattle.lr_wakeups.specs.Answered.{is_asked_at, asked_with}
 use Rattle.lr_wakeups.specs.Standing.{blocked_with, is_blocked}
 use Rattle.lr_wakeups.proofs.EntryChanges.{ChangesEntry}
-use Rattle.lr_wakeups.proofs.Joining.{placed_on, registered_there}
+use Rattle.lr_wakeups.proofs.Joining.{placed_on}
 use Rattle.lr_wakeups.proofs.Threads.{seen_alike, registered_local, blocked_local, awake_local, due_local}
 
 -- What a request that joins isn't.

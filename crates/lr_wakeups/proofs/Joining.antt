@@ -1,15 +1,14 @@
 -- Threads join exactly while their client doesn't hear their channel, at each change.
-use Rattle.std.proofs.Common.{◌≡◌, ℕ, ◌+◌, ◌<◌, ◌≤◌, ◌^◌, nat_lt, ◌==◌, List, ◌∷◌, Bool, true, false, not, ◌&&◌, Option, Some, None, refl, ap, sym, ◌∙◌, subst, arith, if◌then◌else◌, ◌⊎◌, inl, inr}
+use Rattle.std.proofs.Common.{◌≡◌, ℕ, ◌≤◌, Bool, true, false, not, Option, Some, None, refl, ap, sym, ◌∙◌, subst, ◌⊎◌, inl, inr}
 use Rattle.std.proofs.lemmas.Bool.{and_from, false≢true, cases_eq}
 use Rattle.lr_limits.specs.Limits.{thread_limit}
 use Rattle.lr_names.specs.Channel.{ChannelOf, channel_wakes}
 use Rattle.lr_objects.specs.declared.reply.Reply.{Reply}
-use Rattle.lr_waiting.specs.declared.latch.LatchEntry.{LatchEntry}
 use Rattle.lr_waiting.specs.declared.waiter.Stage.{Stage}
 use Rattle.lr_waiting.specs.declared.waiter.Waiter.{Waiter}
 use Rattle.lr_model.specs.Board.{same_channel}
 use Rattle.lr_waiting.specs.Latch.{is_subscribed, leave_in, register_in}
-use Rattle.lr_waiting.specs.Session.{Session, at_stage, channel_in, channel_for, owner_in, entry_for, with_latches, is_joining_at}
+use Rattle.lr_waiting.specs.Session.{at_stage, channel_in, channel_for, owner_in, with_latches, is_joining_at}
 use Rattle.lr_waiting.specs.Client.{Client, waiter_in}
 use Rattle.lr_model.proofs.SameChannel.{same_is, same_self}
 use Rattle.lr_wakeups.specs.Registered.{registered_with, is_registered, IsCounted}

@@ -1,5 +1,5 @@
 -- The facts of the channels together: of latches and of a connection.
-use Rattle.std.proofs.Common.{◌≡◌, ℕ, suc, ◌<◌, ◌≤◌, ◌^◌, List, ◌∷◌, Bool, false, Option, refl, sym, ◌∙◌, subst}
+use Rattle.std.proofs.Common.{◌≡◌, ℕ, suc, ◌<◌, ◌^◌, List, ◌∷◌, Bool, false, Option, subst}
 use Rattle.lr_names.specs.Channel.{ChannelOf}
 use Rattle.lr_names.specs.declared.kind.Wakes.{Wakes}
 use Rattle.lr_names.specs.declared.post.Post.{Post}
@@ -7,7 +7,7 @@ use Rattle.lr_names.specs.declared.post.Push.{Push}
 use Rattle.lr_names.specs.declared.post.Push.TheVariants.{Subscribed, Unsubscribed, Message}
 use Rattle.lr_waiting.specs.declared.latch.LatchEntry.{LatchEntry}
 use Rattle.lr_waiting.specs.declared.latch.Order.{Order}
-use Rattle.lr_model.specs.Board.{Connection, has_channel, is_overrun, closed_connection, connection_after_post, connection_after_drain}
+use Rattle.lr_model.specs.Board.{Connection, has_channel, is_overrun, closed_connection, connection_after_post}
 use Rattle.lr_waiting.specs.Latch.{Latches, no_latches, register_at, leave_at, take_permit_at, acknowledge_at, deliver_at}
 use Rattle.lr_wakeups.specs.Outstanding.{IsAccounted}
 use Rattle.lr_wakeups.specs.Orders.{OrdersMatch, connection_after_order}

@@ -19,3 +19,4 @@ pub mod LatchFacts
 pub mod ThreadSteps
 pub mod Rows
 pub mod ServerSteps
+pub mod Stands

@@ -1,12 +1,12 @@
 -- Orders stay matched to what is registered at each change.
-use Rattle.std.proofs.Common.{◌≡◌, ℕ, suc, ◌+◌, ◌-◌, ◌<◌, ◌≤◌, ◌^◌, ◌==◌, nat_lt, List, [], ◌∷◌, ◌++◌, Bool, true, false, not, ◌&&◌, refl, ap, sym, ◌∙◌, subst, arith, Some}
+use Rattle.std.proofs.Common.{◌≡◌, ℕ, suc, ◌+◌, ◌-◌, ◌<◌, ◌^◌, nat_lt, List, [], ◌∷◌, ◌++◌, Bool, true, false, not, refl, ap, sym, subst, arith}
 use Rattle.std.proofs.lemmas.Bool.Decides.{nat_tests}
-use Rattle.std.proofs.lemmas.Bool.{lt-ltb, le-ltb, false≢true}
+use Rattle.std.proofs.lemmas.Bool.{lt-ltb, le-ltb}
 use Rattle.lr_names.specs.Channel.{ChannelOf, channel_wakes}
 use Rattle.lr_names.specs.declared.kind.Wakes.{Wakes}
 use Rattle.lr_names.specs.declared.kind.Wakes.TheVariants.{One, All}
 use Rattle.lr_names.specs.declared.post.Push.{Push}
-use Rattle.lr_names.specs.declared.post.Push.TheVariants.{Subscribed, Unsubscribed}
+use Rattle.lr_names.specs.declared.post.Push.TheVariants.{Subscribed}
 use Rattle.lr_waiting.specs.declared.latch.LatchEntry.{LatchEntry}
 use Rattle.lr_waiting.specs.declared.latch.Order.{Order}
 use Rattle.lr_model.specs.Board.{same_channel}

@@ -1,5 +1,5 @@
 -- Outstanding acknowledgements stay accounted for at each change.
-use Rattle.std.proofs.Common.{◌≡◌, ℕ, suc, ◌+◌, ◌<◌, ◌≤◌, ◌^◌, ◌%◌, ◌==◌, List, [], ◌∷◌, ◌++◌, Bool, true, false, not, refl, ap, sym, ◌∙◌, subst, arith, if◌then◌else◌, Some}
+use Rattle.std.proofs.Common.{◌≡◌, ℕ, suc, ◌+◌, ◌<◌, ◌^◌, List, [], ◌∷◌, ◌++◌, Bool, true, false, refl, ap, ◌∙◌, subst, arith, Some}
 use Rattle.lr_names.specs.Channel.{ChannelOf, channel_wakes}
 use Rattle.lr_names.specs.declared.kind.Wakes.{Wakes}
 use Rattle.lr_names.specs.declared.kind.Wakes.TheVariants.{One, All}
@@ -10,7 +10,7 @@ use Rattle.lr_waiting.specs.declared.latch.Order.{Order}
 use Rattle.lr_model.specs.Board.{same_channel}
 use Rattle.lr_waiting.specs.Latch.{register_first, leave_last, leave_more, deliver_to, deliver_in, acknowledge_in}
 use Rattle.lr_model.proofs.SameChannel.{same_self}
-use Rattle.lr_wakeups.specs.Counting.{one_if, count_of}
+use Rattle.lr_wakeups.specs.Counting.{one_if}
 use Rattle.lr_wakeups.specs.Outstanding.{IsAccounted, is_subscribe_on, is_acknowledgement_on, subscribes_waiting, acknowledgements_in_flight}
 use Rattle.lr_wakeups.proofs.Counts.{count_of-push}
 use Rattle.lr_wakeups.proofs.Entries.{kept_or_none, acknowledged_by, delivered_by}

@@ -1,16 +1,13 @@
 -- Permits stay bounded at each change.
-use Rattle.std.proofs.Common.{◌≡◌, ℕ, suc, ◌+◌, ◌-◌, ◌<◌, ◌≤◌, ◌^◌, min, List, [], ◌∷◌, ◌++◌, Bool, true, false, refl, ap, sym, ◌∙◌, subst, arith}
-use Rattle.std.proofs.lemmas.Bool.{ltb-false}
+use Rattle.std.proofs.Common.{◌≡◌, refl, sym, ◌∙◌, arith}
 use Rattle.lr_names.specs.Channel.{ChannelOf, channel_wakes}
 use Rattle.lr_names.specs.declared.kind.Wakes.{Wakes}
 use Rattle.lr_names.specs.declared.kind.Wakes.TheVariants.{One, All}
-use Rattle.lr_names.specs.declared.post.Push.{Push}
 use Rattle.lr_waiting.specs.declared.latch.LatchEntry.{LatchEntry}
-use Rattle.lr_waiting.specs.declared.latch.Order.{Order}
-use Rattle.lr_waiting.specs.Latch.{register_first, leave_last, leave_more, deliver_to, deliver_in, acknowledge_in, no_entry}
+use Rattle.lr_waiting.specs.Latch.{leave_more, deliver_to, deliver_in, no_entry}
 use Rattle.lr_wakeups.specs.Permits.{IsBounded}
 use Rattle.lr_wakeups.proofs.Entries.{kept_or_none, acknowledged_by, delivered_by}
-use Rattle.lr_wakeups.proofs.ChannelFacts.{ChannelFact, IsKept, order_for}
+use Rattle.lr_wakeups.proofs.ChannelFacts.{ChannelFact, IsKept}
 
 abbrev pub Fact : ChannelFact
 Fact n channel entry orders has outbox = IsBounded channel entry

@@ -1,5 +1,5 @@
 -- What is registered stays counted at each change.
-use Rattle.std.proofs.Common.{◌≡◌, ℕ, ◌+◌, ◌<◌, ◌≤◌, Bool, true, false, ◌&&◌, Option, Some, None, refl, ap, sym, ◌∙◌, subst, arith}
+use Rattle.std.proofs.Common.{◌≡◌, ℕ, ◌+◌, ◌≤◌, Bool, true, false, ◌&&◌, Option, Some, None, refl, ap, sym, ◌∙◌, arith}
 use Rattle.lr_limits.specs.Limits.{thread_limit}
 use Rattle.lr_names.specs.Channel.{ChannelOf, channel_wakes}
 use Rattle.lr_objects.specs.declared.reply.Reply.{Reply}
@@ -12,7 +12,7 @@ use Rattle.lr_waiting.specs.Session.{at_stage, channel_in, channel_for, owner_in
 use Rattle.lr_waiting.specs.Stand.{waits_at}
 use Rattle.lr_model.proofs.SameChannel.{same_is}
 use Rattle.lr_waiting.specs.Client.{Client, waiter_in}
-use Rattle.lr_wakeups.specs.Counting.{one_if, count_below}
+use Rattle.lr_wakeups.specs.Counting.{one_if}
 use Rattle.lr_wakeups.specs.Registered.{registered_with, is_registered, registered_on, IsCounted}
 use Rattle.lr_wakeups.proofs.Counts.{count_changed, count_same, count_some, count_two}
 use Rattle.lr_wakeups.proofs.EntryChanges.{ChangesEntry, registered_left, registered_in}

@@ -1,5 +1,5 @@
 -- Only the latches of a client change: its threads stay.
-use Rattle.std.proofs.Common.{◌≡◌, ℕ, ◌<◌, ◌≤◌, Bool, true, Some, refl, sym, ◌∙◌, subst}
+use Rattle.std.proofs.Common.{◌≡◌, ℕ, ◌<◌, ◌≤◌, true, Some, refl, sym, ◌∙◌}
 use Rattle.lr_limits.specs.Limits.{thread_limit}
 use Rattle.lr_names.specs.Channel.{ChannelOf, channel_wakes}
 use Rattle.lr_names.specs.declared.kind.Wakes.TheVariants.{One}

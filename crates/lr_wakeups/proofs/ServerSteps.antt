@@ -1,8 +1,8 @@
 -- All facts after what the server does: it executes an order, an item comes, a message is sent; and
 -- after a cut.
-use Rattle.std.proofs.Common.{◌≡◌, ℕ, zero, suc, ◌+◌, ◌<◌, ◌≤◌, ◌^◌, ◌==◌, nat_lt, List, [], ◌∷◌, ◌++◌, drop, slice_get, Bool, true, false, not, ◌&&◌, ◌||◌, Option, Some, None, refl, ap, sym, ◌∙◌, subst, arith, if◌then◌else◌}
+use Rattle.std.proofs.Common.{◌≡◌, ℕ, zero, suc, ◌+◌, ◌<◌, ◌≤◌, ◌^◌, nat_lt, List, [], ◌∷◌, drop, slice_get, Bool, true, false, not, ◌&&◌, ◌||◌, Option, Some, None, refl, ap, sym, ◌∙◌, subst, arith, if◌then◌else◌}
 use Rattle.std.specs.List.{list_any}
-use Rattle.std.proofs.lemmas.Bool.{and_parts, or_cases, false≢true, ne_eqb}
+use Rattle.std.proofs.lemmas.Bool.{and_parts, false≢true, ne_eqb}
 use Rattle.std.proofs.lemmas.List.Folds.{list_any-append}
 use Rattle.std.proofs.lemmas.Option.{same_Some}
 use Rattle.lr_limits.specs.Limits.{thread_limit}
@@ -19,17 +19,16 @@ use Rattle.lr_waiting.specs.declared.waiter.Stage.TheVariants.{Joining}
 use Rattle.lr_waiting.specs.declared.waiter.Waiter.{Waiter}
 use Rattle.lr_objects.specs.declared.kinds.Function.{Function}
 use Rattle.lr_objects.specs.declared.reply.Reply.{Reply}
-use Rattle.lr_model.specs.Board.{same_channel, Connection, has_channel, has_room, is_overrun, closed_connection, dropped_connection, with_item, connection_after_post, connection_after_subscribe, connection_after_unsubscribe, connection_after_drain}
-use Rattle.lr_waiting.specs.Latch.{Latches, no_entry, no_latches, is_subscribed, acknowledge_in, acknowledge_at, deliver_in, deliver_at, first_order_of, without_first_order}
-use Rattle.lr_waiting.specs.Session.{Session, with_latches, with_joined, pushed, acknowledged, order_taken, channel_in, is_joining_at}
+use Rattle.lr_model.specs.Board.{same_channel, Connection, has_channel, has_room, is_overrun, closed_connection, dropped_connection, with_item, connection_after_post, connection_after_drain}
+use Rattle.lr_waiting.specs.Latch.{Latches, no_entry, is_subscribed, acknowledge_in, acknowledge_at, deliver_in, deliver_at, first_order_of, without_first_order}
+use Rattle.lr_waiting.specs.Session.{with_latches, with_joined, pushed, acknowledged, order_taken, channel_in, is_joining_at}
 use Rattle.lr_waiting.specs.Client.{Client, waiter_in, new_client, cut_client}
 use Rattle.lr_waiting.specs.Stand.{in_flight, is_message_on}
 use Rattle.lr_model.proofs.SameChannel.{same_is, same_self}
-use Rattle.lr_wakeups.specs.Counting.{count_below, one_if}
+use Rattle.lr_wakeups.specs.Counting.{count_below}
 use Rattle.lr_wakeups.specs.Outstanding.{IsAccounted}
-use Rattle.lr_wakeups.specs.Orders.{OrdersMatch, connection_after_order}
-use Rattle.lr_wakeups.specs.Registered.{is_registered, registered_on, IsCounted}
-use Rattle.lr_wakeups.specs.Joining.{IsPlaced, PlacedWith, PlacedIn}
+use Rattle.lr_wakeups.specs.Orders.{OrdersMatch, IsHeard, connection_after_order}
+use Rattle.lr_wakeups.specs.Joining.{PlacedWith, PlacedIn}
 use Rattle.lr_wakeups.specs.Standing.{is_blocked_at, blocked_with, is_blocked, Stands, IsCovered, ByMessage, ByPermit, ByAwake, ByTimer}
 use Rattle.lr_wakeups.specs.Facts.{Facts}
 use Rattle.lr_wakeups.proofs.Entries.{delivered_by}
@@ -41,7 +40,7 @@ use Rattle.lr_wakeups.proofs.LatchFacts.{LatchFacts, latch_facts_at_start, latch
 use Rattle.lr_wakeups.proofs.Registered.{counts_same, counts_one}
 use Rattle.lr_wakeups.proofs.Answered.{answered_same}
 use Rattle.lr_wakeups.proofs.Standing.{blocked_registered, covered_alike}
-use Rattle.lr_wakeups.proofs.Joined.{counted_client, joined_client, joined_registered, joined_blocked, joined_awake, joined_due, joined_asked, joined_placed}
+use Rattle.lr_wakeups.proofs.Joined.{joined_client, joined_registered, joined_blocked, joined_awake, joined_due, joined_asked, joined_placed}
 use Rattle.lr_wakeups.proofs.Relatched.{relatched, cover_threads, count_relatched, place_relatched, answer_relatched, cover_relatched}
 use Rattle.lr_wakeups.proofs.ThreadSteps.{latch_facts}
 
@@ -506,6 +505,16 @@ module _ (n : ℕ) (peak : ChannelOf → ℕ) (client : Client) (connection : Co
               (has_channel q connection) connection.outbox (facts.accounted q) (facts.matched q)
               (heard_where_blocked client q t (facts.placed t within) blocked)).subscribed)))
               (facts.covered q)
+
+  -- where the client hears a channel, all is told
+  pub facts_heard : (channel : ChannelOf)
+      → is_subscribed (client.session.latches.entries channel) ≡ true
+      → IsHeard channel client.session.latches.orders (has_channel channel connection)
+      connection.outbox
+  facts_heard channel heard =
+      is_heard n channel (client.session.latches.entries channel) client.session.latches.orders
+      (has_channel channel connection) connection.outbox (facts.accounted channel)
+      (facts.matched channel) heard
 
   -- peaks may rise
   pub facts_raised : (then_ : ChannelOf → ℕ) → ((q : ChannelOf) → peak q ≤ then_ q)

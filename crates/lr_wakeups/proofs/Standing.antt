@@ -1,9 +1,8 @@
 -- What stands for those who were refused, at each change.
-use Rattle.std.proofs.Common.{◌≡◌, ℕ, ◌+◌, ◌<◌, ◌≤◌, Bool, true, false, not, ◌&&◌, ◌||◌, Option, Some, None, refl, ap, sym, ◌∙◌, subst, arith, if◌then◌else◌, ◌⊎◌, inl, inr}
+use Rattle.std.proofs.Common.{◌≡◌, ℕ, ◌<◌, ◌≤◌, Bool, true, false, not, ◌&&◌, Option, Some, None, refl, ap, sym, ◌∙◌, subst, if◌then◌else◌, ◌⊎◌, inl, inr}
 use Rattle.std.proofs.lemmas.Bool.{and_parts, false≢true, cases_eq}
 use Rattle.lr_limits.specs.Limits.{thread_limit}
 use Rattle.lr_names.specs.Channel.{ChannelOf, channel_wakes}
-use Rattle.lr_names.specs.declared.kind.Wakes.{Wakes}
 use Rattle.lr_names.specs.declared.kind.Wakes.TheVariants.{One}
 use Rattle.lr_objects.specs.Reply.{blocks}
 use Rattle.lr_objects.specs.declared.reply.Reply.{Reply}
@@ -16,14 +15,13 @@ use Rattle.lr_model.specs.Board.{same_channel, Connection}
 use Rattle.lr_waiting.specs.Latch.{leave_in}
 use Rattle.lr_waiting.specs.Session.{at_stage, channel_in}
 use Rattle.lr_waiting.specs.Client.{Client, waiter_in}
-use Rattle.lr_waiting.specs.Stand.{waits_at, in_flight, is_awake_at, awake_with, is_awake, due_at, due_by_reply, due_with, due_of}
+use Rattle.lr_waiting.specs.Stand.{waits_at, is_awake_at, awake_with, is_awake, due_at, due_by_reply, due_with, due_of}
 use Rattle.lr_model.proofs.SameChannel.{same_is}
 use Rattle.lr_wakeups.specs.Registered.{registered_with, is_registered, IsCounted}
 use Rattle.lr_wakeups.specs.Standing.{is_blocked_at, blocked_with, is_blocked, Stands, IsCovered, ByMessage, ByPermit, ByAwake, ByTimer}
 use Rattle.lr_wakeups.proofs.EntryChanges.{ChangesEntry, permit_left}
 use Rattle.lr_wakeups.proofs.Registered.{counts_two}
-use Rattle.lr_wakeups.proofs.Joining.{registered_there}
-use Rattle.lr_wakeups.proofs.Threads.{ChangesThread, alone, seen_there, seen_here, registered_local, blocked_local, awake_local, due_local}
+use Rattle.lr_wakeups.proofs.Threads.{ChangesThread, alone, seen_there, seen_here, blocked_local, awake_local, due_local}
 
 -- A thread that isn't registered at a channel neither stands nor is blocked there.
 

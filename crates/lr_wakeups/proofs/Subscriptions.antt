@@ -1,11 +1,10 @@
 -- Whether a connection has a channel, after an order was executed.
-use Rattle.std.proofs.Common.{◌≡◌, ℕ, List, [], ◌∷◌, ◌++◌, Bool, true, false, not, ◌&&◌, ◌||◌, refl, ap, sym, ◌∙◌, subst, if◌then◌else◌, filter, cond}
+use Rattle.std.proofs.Common.{◌≡◌, List, [], ◌∷◌, ◌++◌, Bool, true, false, not, ◌||◌, refl, ap, sym, ◌∙◌, if◌then◌else◌, filter, cond}
 use Rattle.std.specs.List.{list_any}
-use Rattle.std.proofs.lemmas.Bool.{false≢true}
 use Rattle.std.proofs.lemmas.List.Folds.{list_any-append}
 use Rattle.lr_names.specs.Channel.{ChannelOf}
 use Rattle.lr_model.specs.Board.{same_channel, Connection, has_channel, connection_after_subscribe, connection_after_unsubscribe}
-use Rattle.lr_model.proofs.SameChannel.{same_is, same_self, same_symm}
+use Rattle.lr_model.proofs.SameChannel.{same_is, same_self}
 
 or_false : (b : Bool) → (b || (false || false)) ≡ b
 or_false true = refl

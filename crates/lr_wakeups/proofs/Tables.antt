@@ -4,7 +4,7 @@ use Rattle.std.proofs.lemmas.Bool.{eqb-true, eqb-false, eq-eqb, ne_eqb}
 use Rattle.lr_names.specs.Channel.{ChannelOf}
 use Rattle.lr_model.specs.Board.{same_channel}
 use Rattle.lr_model.specs.Table.{put}
-use Rattle.lr_model.proofs.SameChannel.{same_is, same_self, same_symm}
+use Rattle.lr_model.proofs.SameChannel.{same_is, same_symm}
 
 -- another channel stays
 pub at_channel : {X : Type 0} (P : ChannelOf → X → Type 0) (table : ChannelOf → X)

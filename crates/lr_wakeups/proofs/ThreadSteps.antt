@@ -1,40 +1,31 @@
 -- All facts after each step of a thread.
-use Rattle.std.proofs.Common.{◌≡◌, ℕ, suc, ◌+◌, ◌<◌, ◌≤◌, ◌^◌, ◌==◌, List, Bool, true, false, not, ◌&&◌, Option, Some, None, refl, ap, sym, ◌∙◌, subst, arith, if◌then◌else◌}
-use Rattle.std.specs.Option.{option_map}
+use Rattle.std.proofs.Common.{◌≡◌, ℕ, suc, ◌+◌, ◌<◌, ◌≤◌, ◌^◌, true, false, not, ◌&&◌, Option, Some, None, refl, ap, sym, ◌∙◌, subst}
 use Rattle.std.proofs.lemmas.Bool.{and_parts, false≢true}
-use Rattle.std.proofs.lemmas.Option.{same_Some}
 use Rattle.lr_limits.specs.Limits.{thread_limit}
 use Rattle.lr_names.specs.Channel.{ChannelOf, channel_wakes}
 use Rattle.lr_names.specs.declared.kind.Wakes.TheVariants.{One}
 use Rattle.lr_objects.specs.Reply.{blocks}
 use Rattle.lr_objects.specs.declared.reply.Reply.{Reply}
-use Rattle.lr_objects.specs.declared.reply.Reply.TheVariants as replies
-use Rattle.lr_objects.specs.declared.want.Mode.{Mode}
-use Rattle.lr_objects.specs.declared.want.Want.{Want}
-use Rattle.lr_waiting.specs.declared.latch.Checked.{Checked}
-use Rattle.lr_waiting.specs.declared.latch.Checked.TheVariants as checks
 use Rattle.lr_waiting.specs.declared.latch.LatchEntry.{LatchEntry}
-use Rattle.lr_waiting.specs.declared.latch.Woken.{Woken}
-use Rattle.lr_waiting.specs.declared.latch.Woken.TheVariants as wakings
 use Rattle.lr_waiting.specs.declared.waiter.Asking.{Asking}
 use Rattle.lr_waiting.specs.declared.waiter.Refusal.{Refusal}
 use Rattle.lr_waiting.specs.declared.waiter.Stage.{Stage}
-use Rattle.lr_waiting.specs.declared.waiter.Stage.TheVariants.{Fresh, Asked, Joining, Ready, Refused, Asleep, Leaving}
+use Rattle.lr_waiting.specs.declared.waiter.Stage.TheVariants.{Asked, Refused, Asleep}
 use Rattle.lr_waiting.specs.declared.waiter.Waiter.{Waiter}
 use Rattle.lr_model.specs.Board.{Connection, same_channel}
-use Rattle.lr_waiting.specs.Latch.{Latches, is_subscribed, is_due, next_count, register_in, register_at, leave_in, leave_at, take_permit, take_permit_at, checked_in, woken_in}
-use Rattle.lr_waiting.specs.Session.{Session, at_stage, channel_in, entry_for, with_waiter, with_stage, with_latches, with_ticket, is_joining_at, new_waiter, due_after, asking_for}
+use Rattle.lr_waiting.specs.Latch.{Latches, is_subscribed, register_in, register_at, leave_in, leave_at, take_permit, take_permit_at}
+use Rattle.lr_waiting.specs.Session.{at_stage, channel_in, entry_for, with_waiter, with_stage, with_latches, is_joining_at, due_after}
 use Rattle.lr_waiting.specs.Client.{Client, waiter_in, with_reply}
 use Rattle.lr_waiting.specs.Stand.{waits_at, is_awake_at, due_at, due_by_reply}
-use Rattle.lr_wakeups.specs.Registered.{registered_with, is_registered, IsCounted}
-use Rattle.lr_wakeups.specs.Joining.{FitsStage, IsPlaced}
-use Rattle.lr_wakeups.specs.Answered.{asked_with, is_asked_at, HasReplyIfAsked}
+use Rattle.lr_wakeups.specs.Registered.{registered_with, is_registered}
+use Rattle.lr_wakeups.specs.Joining.{FitsStage}
+use Rattle.lr_wakeups.specs.Answered.{asked_with, is_asked_at}
 use Rattle.lr_wakeups.specs.Standing.{is_blocked_at, IsCovered, IsInTime}
 use Rattle.lr_wakeups.specs.Facts.{Facts}
 use Rattle.lr_model.proofs.SameChannel.{same_is}
 use Rattle.lr_wakeups.proofs.Tables.{put_here, put_there}
 use Rattle.lr_wakeups.proofs.EntryChanges.{ChangesEntry, entry_put, entry_left, entry_registered, by_channel, permits_registered}
-use Rattle.lr_wakeups.proofs.LatchFacts.{LatchFacts, latch_facts_later, latch_facts_registered, latch_facts_left, latch_facts_permit}
+use Rattle.lr_wakeups.proofs.LatchFacts.{LatchFacts, latch_facts_registered, latch_facts_left, latch_facts_permit}
 use Rattle.lr_wakeups.proofs.Threads.{ChangesThread, changes_waiter, changes_both}
 use Rattle.lr_wakeups.proofs.Registered.{count_begun, count_restaged, count_ended, count_left, count_registered}
 use Rattle.lr_wakeups.proofs.Joining.{place_begun, place_ended, placed_was, place_restaged, place_left, place_registered}

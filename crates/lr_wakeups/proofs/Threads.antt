@@ -1,6 +1,6 @@
 -- A change of one thread of a client: every other thread stays. What is so of a thread at a channel
 -- is told by its request and by the reply that waits for it.
-use Rattle.std.proofs.Common.{◌≡◌, ℕ, ◌+◌, ◌<◌, ◌≤◌, ◌==◌, List, Bool, true, false, Option, Some, None, refl, ap, sym, ◌∙◌, subst, arith, ◌⊎◌, inl, inr}
+use Rattle.std.proofs.Common.{◌≡◌, ℕ, ◌==◌, List, Option, Some, None, refl, ap, sym, ◌∙◌, subst, ◌⊎◌, inl, inr}
 use Rattle.std.proofs.lemmas.Bool.{cases_eq}
 use Rattle.lr_names.specs.Channel.{ChannelOf}
 use Rattle.lr_objects.specs.declared.reply.Reply.{Reply}
@@ -8,9 +8,9 @@ use Rattle.lr_waiting.specs.declared.waiter.Waiter.{Waiter}
 use Rattle.lr_model.specs.Table.{put}
 use Rattle.lr_waiting.specs.Session.{Session, first_session, with_waiter}
 use Rattle.lr_waiting.specs.Client.{Client, waiter_in}
-use Rattle.lr_waiting.specs.Stand.{awake_with, is_awake, due_with, due_of}
-use Rattle.lr_wakeups.specs.Registered.{registered_with, is_registered}
-use Rattle.lr_wakeups.specs.Standing.{blocked_with, is_blocked}
+use Rattle.lr_waiting.specs.Stand.{awake_with, due_with}
+use Rattle.lr_wakeups.specs.Registered.{registered_with}
+use Rattle.lr_wakeups.specs.Standing.{blocked_with}
 use Rattle.lr_wakeups.proofs.Tables.{put_here, put_there}
 
 -- afterwards a thread has this request or none, and this reply waits for it or none

@@ -1,6 +1,5 @@
 -- A reply stands only for a thread whose call was sent.
 use Rattle.std.specs.Prelude.{◌≡◌, ℕ, Bool, true, false, Option, Some, None}
-use Rattle.lr_objects.specs.declared.reply.Reply.{Reply}
 use Rattle.lr_waiting.specs.declared.waiter.Stage.{Stage}
 use Rattle.lr_waiting.specs.declared.waiter.Stage.TheVariants.{Asked}
 use Rattle.lr_waiting.specs.declared.waiter.Waiter.{Waiter}

@@ -7,3 +7,4 @@ pub mod Joining
 pub mod Answered
 pub mod Standing
 pub mod Facts
+pub mod Keeps

@@ -1,6 +1,6 @@
 -- Orders match what is registered: those that wait lead from what the server has to what the client
 -- wants.
-use Rattle.std.specs.Prelude.{◌≡◌, ℕ, nat_lt, List, [], ◌∷◌, Bool, true, false, not, if◌then◌else◌}
+use Rattle.std.specs.Prelude.{◌≡◌, nat_lt, List, [], ◌∷◌, Bool, true, false, not, if◌then◌else◌}
 use Rattle.lr_names.specs.Channel.{ChannelOf}
 use Rattle.lr_names.specs.declared.post.Push.{Push}
 use Rattle.lr_waiting.specs.declared.latch.LatchEntry.{LatchEntry}

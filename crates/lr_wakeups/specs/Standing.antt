@@ -7,14 +7,17 @@ use Rattle.lr_objects.specs.Reply.{blocks}
 use Rattle.lr_objects.specs.declared.kinds.Function.{Function}
 use Rattle.lr_objects.specs.declared.reply.Reply.{Reply}
 use Rattle.lr_objects.specs.declared.reply.Reply.TheVariants.{Busy}
+use Rattle.lr_waiting.specs.declared.stand.Stand.{Stand}
+use Rattle.lr_waiting.specs.declared.stand.Stand.TheVariants as stands
 use Rattle.lr_waiting.specs.declared.waiter.Asking.{Asking}
 use Rattle.lr_waiting.specs.declared.waiter.Stage.{Stage}
 use Rattle.lr_waiting.specs.declared.waiter.Stage.TheVariants.{Asked, Refused, Asleep}
 use Rattle.lr_waiting.specs.declared.waiter.Waiter.{Waiter}
 use Rattle.lr_model.specs.Board.{Connection}
+use Rattle.lr_model.specs.History.{State}
 use Rattle.lr_waiting.specs.Session.{channel_in}
 use Rattle.lr_waiting.specs.Client.{Client, waiter_in}
-use Rattle.lr_waiting.specs.Stand.{waits_at, in_flight, is_awake, due_of}
+use Rattle.lr_waiting.specs.Stand.{waits_at, in_flight, is_awake, due_of, stand_of}
 
 -- whether a call was refused, and its thread hasn't been woken since: the reply waits for it, or it
 -- looks next whether it is to sleep, or it sleeps
@@ -61,3 +64,19 @@ pub record IsInTime (peak : ChannelOf → ℕ) (client : Client) (thread : ℕ) 
       → blocks reply waiter.want.function ≡ true
       → (millis : ℕ) × (reply ≡ Busy millis)
       × (asking.at + millis ≤ peak (channel_in client.session thread waiter))
+
+-- what is told to stand: a timer isn't later than the peak, and it is never nothing
+abbrev pub StandsWithin : ℕ → Stand → Type 0
+StandsWithin peak (stands.Timer moment) = moment ≤ peak
+StandsWithin peak stands.Nobody = ⊥
+StandsWithin peak _ = Unit {0}
+
+-- no wakeup is lost to a client: this is so of each of its threads that sleeps on a channel where a
+-- message wakes one
+abbrev pub NoLostWakeup : (ChannelOf → ℕ) → Client → Connection → Type 0
+NoLostWakeup peak client connection =
+    (state : State) (now thread : ℕ) (waiter : Waiter) (stand : Stand)
+    → thread ≤ thread_limit → waiter_in client thread ≡ Some waiter
+    → channel_wakes (channel_in client.session thread waiter).kind ≡ One
+    → stand_of state now connection.outbox client thread ≡ Some stand
+    → StandsWithin (peak (channel_in client.session thread waiter)) stand

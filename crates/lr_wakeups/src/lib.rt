@@ -2,3 +2,23 @@
 //! before and after each step. Nothing runs here: a law is a public function with an empty body,
 //! and its clause is what is proved.
 #![tactic(auto)]
+
+mod server_laws;
+mod stand_laws;
+mod start_laws;
+mod thread_laws;
+
+pub use server_laws::{
+    a_message_keeps_the_facts, a_reply_keeps_the_facts, an_executed_order_keeps_the_facts,
+    an_item_keeps_the_facts, raised_peaks_keep_the_facts,
+};
+pub use stand_laws::no_wakeup_is_lost;
+pub use start_laws::{
+    a_client_that_hears_has_told_all, a_cut_keeps_the_facts, more_orders_keep_the_facts,
+    the_facts_at_start,
+};
+pub use thread_laws::{
+    asking_keeps_the_facts, beginning_keeps_the_facts, checking_keeps_the_facts,
+    firing_keeps_the_facts, quitting_keeps_the_facts, taking_keeps_the_facts,
+    waking_keeps_the_facts,
+};

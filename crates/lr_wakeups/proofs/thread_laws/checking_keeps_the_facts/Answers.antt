@@ -1,0 +1,6 @@
+use Rattle.lr_wakeups.proofs.Rows.{facts_check}
+use Rattle.lr_wakeups.proofs.thread_laws.checking_keeps_the_facts.Goals as goal
+
+pub returns : goal.returns
+returns c = λ now thread within n peak client after connection facts.
+    facts_check n peak client connection facts thread within now after

@@ -1,0 +1,14 @@
+ghost use Rattle.std.specs.Prelude.{ℕ};
+ghost use Rattle.lr_names.specs.Channel.{ChannelOf};
+ghost use Rattle.lr_model.specs.Board.{Connection};
+ghost use Rattle.lr_waiting.specs.Client.{Client};
+ghost use Rattle.lr_wakeups.specs.Facts.{Facts};
+ghost use Rattle.lr_wakeups.specs.Standing.{NoLostWakeup};
+
+/// Where the facts are so, something stands for each thread that sleeps on a channel where a message
+/// wakes one. What is told to stand for it is never nothing, and a timer that is told isn't later
+/// than the peak.
+pub fn no_wakeup_is_lost()
+    ensures { (n : ℕ) (peak : ChannelOf → ℕ) (client : Client) (connection : Connection)
+        → Facts n peak client connection → NoLostWakeup peak client connection }
+{}
