@@ -1,7 +1,7 @@
 #!/usr/bin/env python3
-"""Times one holder among many of the same object: a reader of a read-write lock.
+"""Times one holder among many of the same object: a reader of a read-write lock, and a permit.
 
-    bench/holders.py                        over 1 and 16,000 readers
+    bench/holders.py                        over 1 and 16,000 readers, and over 1 and 50,000 permits
 
 A schedule has two parts. In the first, so many holders take the one object for a long lease. In the second, one more
 takes it and gives it back, again and again; or takes it for a millisecond, and a tick lets that run out.
@@ -14,6 +14,7 @@ each the shortest of several runs. A lock has at most one reader for each thread
 import argparse
 import os
 import tempfile
+import uuid
 
 from play import LEASE, check, thread_of, write_lines
 from program import must_be_built, processor_seconds
@@ -35,6 +36,17 @@ def readers(number):
     return first, events(one, "rw_read a %d" % LEASE) + events(one, "rw_unlock_read a 1"), events(one, "rw_read a 1")
 
 
+def permits(number):
+    """So many permits that one thread has, and what it does with one more."""
+    def take(place, lease):
+        return events("1 1", "permit_try p %s %d" % (uuid.UUID(int=place + 1), lease))
+
+    first = events("1 1", "permit_set p 1000000")
+    first += [line for place in range(number) for line in take(place, LEASE)]
+    release = events("1 1", "permit_release p %s" % uuid.UUID(int=number + 1))
+    return first, take(number, LEASE) + release, take(number, 1)
+
+
 def ticking(turn, turns):
     """So many turns, each of which runs out at a tick behind it."""
     return [line for number in range(turns) for line in turn + ["tick %d" % (number + 1)]]
@@ -54,13 +66,14 @@ def cost(folder, name, first, rest, turns, runs):
 def main():
     parser = argparse.ArgumentParser(description="Times one holder among many of the same object.")
     parser.add_argument("--readers", type=int, default=16_000)
+    parser.add_argument("--permits", type=int, default=50_000, help="permits that are leased beside the one")
     parser.add_argument("--turns", type=int, default=50_000, help="turns of the one holder")
     parser.add_argument("--runs", type=int, default=5, help="runs of each schedule, of which the shortest counts")
     options = parser.parse_args()
     must_be_built()
 
     with tempfile.TemporaryDirectory() as folder:
-        for what, made, many in (("readers", readers, options.readers),):
+        for what, made, many in (("readers", readers, options.readers), ("permits", permits, options.permits)):
             costs = []
             for number in (1, many):
                 first, turn, ending = made(number)
