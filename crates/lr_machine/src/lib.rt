@@ -9,7 +9,7 @@ mod shown;
 mod standings;
 mod thread_id;
 
-pub use clients::{client_at, Clients};
+pub use clients::{Clients, client_at};
 pub use event::Event;
 pub use schedule_line::ScheduleLine;
 pub use shown::{Found, Ordered, Reached, Replied, Shown};

@@ -76,16 +76,16 @@ AreConnected-closed board clients c closable connected = record {
       connected.operator;
   each = λ d within uncut.
       let apart : d ≢ c =
-          λ e. false≢true (sym uncut ∙ ap (λ n. (clients n).session.is_cut) e ∙ closable.cut) in
+      λ e. false≢true (sym uncut ∙ ap (λ n. (clients n).session.is_cut) e ∙ closable.cut) in
       let old = connected.each d within uncut in
       let calls =
-          kept_open board c (command_connection d)
-          (λ e. apart (omega (arith, e, within.0, closable.within.0)))
-          (λ e. omega (arith, e, within.0, closable.within.0)) in
+      kept_open board c (command_connection d)
+      (λ e. apart (omega (arith, e, within.0, closable.within.0)))
+      (λ e. omega (arith, e, within.0, closable.within.0)) in
       let hears =
-          kept_open board c (subscription_connection d)
-          (λ e. omega (arith, e, within.0, closable.within.0))
-          (λ e. apart (omega (arith, e))) in
+      kept_open board c (subscription_connection d)
+      (λ e. omega (arith, e, within.0, closable.within.0))
+      (λ e. apart (omega (arith, e))) in
       record {
         calls = subst CanCall (sym calls) old.calls;
         open_ = subst (λ (x : Connection). IsTrue (is_open x)) (sym hears) old.open_;
@@ -135,19 +135,20 @@ GoesOn-closes [] state moment clients in_time connected closable distinct =
     record { legal = tt; in_time = in_time; connected = connected }
 GoesOn-closes (c ∷ cs) state moment clients in_time connected closable distinct =
     let hears =
-        subst (λ (x : Connection). IsTrue (is_open x))
-        (sym (other_connection state.board (command_connection c) (subscription_connection c)
-        (λ e. omega (arith, e, closable.0.within.0))))
-        closable.0.hears in
+    subst (λ (x : Connection). IsTrue (is_open x))
+    (sym (other_connection state.board (command_connection c) (subscription_connection c)
+    (λ e. omega (arith, e, closable.0.within.0))))
+    closable.0.hears in
     let rest =
-        GoesOn-closes cs (closed_state state moment c) moment clients (omega arith)
-        (AreConnected-closed state.board clients c closable.0 connected)
-        (AreClosable-closed state.board clients c cs closable.0.within distinct.0 closable.1)
-        distinct.1 in
+    GoesOn-closes cs (closed_state state moment c) moment clients (omega arith)
+    (AreConnected-closed state.board clients c closable.0 connected)
+    (AreClosable-closed state.board clients c cs closable.0.within distinct.0 closable.1)
+    distinct.1 in
     record {
-      legal =
-          (record { in_time = in_time; allowed = closable.0.calls },
-          (record { in_time = omega arith; allowed = hears }, rest.legal));
+      legal = (
+        record { in_time = in_time; allowed = closable.0.calls },
+        (record { in_time = omega arith; allowed = hears }, rest.legal),
+      );
       in_time = rest.in_time;
       connected = rest.connected;
     }
@@ -170,10 +171,11 @@ left_apart clients c d = by (cases_eq d c)
         absurd (false≢true (sym uncut
         ∙ ap (λ b. (if b || false then cut_client (clients d) else clients d).session.is_cut)
         (eq-eqb d c same)))
-    by (inr apart) uncut =
-        (apart,
-        sym (ap (λ b. (if b || false then cut_client (clients d) else clients d).session.is_cut)
-        (ne_eqb d c apart)) ∙ uncut)
+    by (inr apart) uncut = (
+      apart,
+      sym (ap (λ b. (if b || false then cut_client (clients d) else clients d).session.is_cut)
+          (ne_eqb d c apart)) ∙ uncut,
+    )
 
 pub others_left : (clients : ℕ → Client) (c d : ℕ) → d ≢ c → (clients d).session.is_cut ≡ false
     → (cut_among (c ∷ []) clients d).session.is_cut ≡ false
@@ -208,12 +210,12 @@ AreConnected-cut board clients c client connected = record {
     each d within left =
         let old = connected.each d within left.1 in
         let calls =
-            kept_open board c (command_connection d)
-            (λ e. left.0 (omega (arith, e, within.0, client.0)))
-            (λ e. omega (arith, e, within.0, client.0)) in
+        kept_open board c (command_connection d)
+        (λ e. left.0 (omega (arith, e, within.0, client.0)))
+        (λ e. omega (arith, e, within.0, client.0)) in
         let hears =
-            kept_open board c (subscription_connection d)
-            (λ e. omega (arith, e, within.0, client.0)) (λ e. left.0 (omega (arith, e))) in
+        kept_open board c (subscription_connection d)
+        (λ e. omega (arith, e, within.0, client.0)) (λ e. left.0 (omega (arith, e))) in
         record {
           calls = subst CanCall (sym calls) old.calls;
           open_ = subst (λ (x : Connection). IsTrue (is_open x)) (sym hears) old.open_;
@@ -240,13 +242,14 @@ pub GoesOn-cut : (state : State) (moment : ℕ) (clients : ℕ → Client) (c : 
 GoesOn-cut state moment clients c in_time client uncut connected =
     let old = connected.each c client uncut in
     let hears =
-        subst (λ (x : Connection). IsTrue (is_open x))
-        (sym (other_connection state.board (command_connection c) (subscription_connection c)
-        (λ e. omega (arith, e, client.0)))) old.open_ in
+    subst (λ (x : Connection). IsTrue (is_open x))
+    (sym (other_connection state.board (command_connection c) (subscription_connection c)
+    (λ e. omega (arith, e, client.0)))) old.open_ in
     record {
-      legal =
-          (record { in_time = in_time; allowed = old.calls.open_ },
-          (record { in_time = omega arith; allowed = hears }, tt));
+      legal = (
+        record { in_time = in_time; allowed = old.calls.open_ },
+        (record { in_time = omega arith; allowed = hears }, tt),
+      );
       in_time = omega arith;
       connected = AreConnected-cut state.board clients c client connected;
     }
@@ -286,9 +289,10 @@ AreDistinct-below (suc n) p = by (p n) (AreDistinct-below n p)
 -- each of these clients is among them
 all_among : (cs : List ℕ) → AllByRecursion (λ c. list_any (λ other. c == other) cs ≡ true) cs
 all_among [] = tt
-all_among (c ∷ cs) =
-    (ap (λ b. b || list_any (λ other. c == other) cs) (eq-eqb c c refl),
-    weaker cs (all_among cs))
+all_among (c ∷ cs) = (
+  ap (λ b. b || list_any (λ other. c == other) cs) (eq-eqb c c refl),
+  weaker cs (all_among cs),
+)
   where
     weaker : (ds : List ℕ) → AllByRecursion (λ d. list_any (λ other. d == other) cs ≡ true) ds
         → AllByRecursion (λ d. list_any (λ other. d == other) (c ∷ cs) ≡ true) ds
@@ -310,9 +314,10 @@ distinct_clients : (post : Post) (board : Board) (clients : ℕ → Client)
     → AreConnected board clients → (conns : List ℕ) → AllByRecursion (IsOver post board) conns
     → AreDistinct conns → AreDistinct (map client_at conns)
 distinct_clients post board clients connected [] over distinct = tt
-distinct_clients post board clients connected (conn ∷ conns) over distinct =
-    (apart conns over.1 distinct.0,
-    distinct_clients post board clients connected conns over.1 distinct.1)
+distinct_clients post board clients connected (conn ∷ conns) over distinct = (
+  apart conns over.1 distinct.0,
+  distinct_clients post board clients connected conns over.1 distinct.1,
+)
   where
     apart : (others : List ℕ) → AllByRecursion (IsOver post board) others → AreApart conn others
         → AreApart (client_at conn) (map client_at others)
@@ -378,9 +383,10 @@ AreClosable-dropped post board clients connected =
         (map client_at conns)
         → AreClosable (board_after_post (Some post) board) now (map client_at conns)
     by [] over among = tt
-    by (conn ∷ conns) over among =
-        (closable_client post board clients connected conn over.0 among.0,
-        by conns over.1 among.1)
+    by (conn ∷ conns) over among = (
+      closable_client post board clients connected conn over.0 among.0,
+      by conns over.1 among.1,
+    )
 
 pub AreDistinct-dropped : (post : Post) (board : Board) (clients : ℕ → Client)
     → AreConnected board clients → AreDistinct (clients_dropped board (Some post))
@@ -403,7 +409,10 @@ AreLeft-dropped post board clients connected = by (dropped_by post board) (all_o
     by [] over = tt
     by (conn ∷ conns) over =
         let heard = overrun-heard post board clients connected conn over.0.1 in
-        let same : client_at conn ≡ heard.client = omega (arith, heard.at) in
-        ((subst IsClient (sym same) heard.within,
-        ap (λ n. (clients n).session.is_cut) same ∙ heard.uncut),
-        by conns over.1)
+        let same : client_at conn ≡ heard.client = omega (arith, heard.at) in (
+          (
+            subst IsClient (sym same) heard.within,
+            ap (λ n. (clients n).session.is_cut) same ∙ heard.uncut,
+          ),
+          by conns over.1,
+        )

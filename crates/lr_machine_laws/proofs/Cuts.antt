@@ -129,7 +129,7 @@ cut-registered thread waiter session =
           registered = true;
         } in
         let waiting =
-            with_latches (register_at (channel_in session thread waiter) session.latches) session in
+        with_latches (register_at (channel_in session thread waiter) session.latches) session in
         if hears then with_ticket thread joined Ready waiting
         else with_stage thread joined Joining waiting).is_cut ≡ session.is_cut
     by true = refl

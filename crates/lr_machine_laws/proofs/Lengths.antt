@@ -74,7 +74,7 @@ left-cut (suc n) clients c from to uncut =
         let same = left-same n clients now (λ d le. other d (λ e. omega (arith, e, last, le))) in
         let cut : flag (now (suc n)).session.is_cut ≡ 0 = ap flag (here (suc n) (sym last)) in
         let left : flag (clients (suc n)).session.is_cut ≡ 1 =
-            ap flag (ap (λ d. (clients d).session.is_cut) (sym last) ∙ uncut) in
+        ap flag (ap (λ d. (clients d).session.is_cut) (sym last) ∙ uncut) in
         omega (arith, same, cut, left)
     by (inr apart) before =
         let fewer = before (omega (arith, to, apart)) in
@@ -103,19 +103,20 @@ left-cut_all : (cs : List ℕ) (clients : ℕ → Client) → AreDistinct cs →
 left-cut_all [] clients distinct left = omega arith
 left-cut_all (c ∷ cs) clients distinct left =
     let turn =
-        left-same client_limit (cut_among cs (cut_among (c ∷ []) clients))
-        (cut_among (c ∷ cs) clients) (λ d le. cut-in_turn clients c cs d) in
+    left-same client_limit (cut_among cs (cut_among (c ∷ []) clients))
+    (cut_among (c ∷ cs) clients) (λ d le. cut-in_turn clients c cs d) in
     let rest =
-        left-cut_all cs (cut_among (c ∷ []) clients) distinct.1 (still cs distinct.0 left.1) in
+    left-cut_all cs (cut_among (c ∷ []) clients) distinct.1 (still cs distinct.0 left.1) in
     let one = left-cut client_limit clients c left.0.0.0 left.0.0.1 left.0.1 in
     omega (arith, turn, rest, one)
   where
     still : (ds : List ℕ) → AreApart c ds → AreLeft clients ds
         → AreLeft (cut_among (c ∷ []) clients) ds
     still [] apart left = tt
-    still (d ∷ ds) apart left =
-        ((left.0.0, others_left clients c d (λ e. apart.0 (sym e)) left.0.1),
-        still ds apart.1 left.1)
+    still (d ∷ ds) apart left = (
+      (left.0.0, others_left clients c d (λ e. apart.0 (sym e)) left.0.1),
+      still ds apart.1 left.1,
+    )
 
 length-closes : (moment : ℕ) (cs : List ℕ) → length (closes_of_all moment cs) ≡ 2 * length cs
 length-closes moment [] = refl
@@ -136,8 +137,8 @@ length-row : (world : World) (c : ℕ) (row : Option Client) → ClientKeepsCut 
     → with_closes (next_row world c row) ≡ with_closes world
 length-row world c row keeps =
     let same =
-        left-same client_limit world.clients (clients_after world.clients c row)
-        (λ d le. same_cut-after world.clients c row keeps d) in
+    left-same client_limit world.clients (clients_after world.clients c row)
+    (λ d le. same_cut-after world.clients c row keeps d) in
     omega (arith, same)
 
 length-step : (world : World) (c : ℕ) (row : Session → Option Session)
@@ -151,10 +152,10 @@ length-call : (world : World) (caller conn : ℕ) (op : Op) → IsInOrder world
     → with_closes (with_call caller conn op world) ≤ with_closes world + 1
 length-call world caller conn op order =
     let cut =
-        length-cut (dropped_at (state_of world) world.moment op)
-        (with_entry (call_entry world.moment caller conn op) world)
-        (distinct (post_of (state_of world).objects world.moment op))
-        (left (post_of (state_of world).objects world.moment op)) in
+    length-cut (dropped_at (state_of world) world.moment op)
+    (with_entry (call_entry world.moment caller conn op) world)
+    (distinct (post_of (state_of world).objects world.moment op))
+    (left (post_of (state_of world).objects world.moment op)) in
     let more = length-append world.entries (call_entry world.moment caller conn op ∷ []) in
     omega (arith, cut, more)
   where
@@ -174,13 +175,13 @@ length-exec : (world : World) (c t : ℕ) (asking : Option Asking) → IsInOrder
 length-exec world c t None order answered = omega arith
 length-exec world c t (Some asking) order answered =
     let row =
-        length-row world c
-        (Some
-        (with_reply t (Some (reply_of (state_of world).objects world.moment asking.op))
-        (world.clients c))) refl in
+    length-row world c
+    (Some
+    (with_reply t (Some (reply_of (state_of world).objects world.moment asking.op))
+    (world.clients c))) refl in
     let call =
-        length-call (answered_in world c t asking.op) (caller_of c t) (command_connection c)
-        asking.op (answered asking.op) in
+    length-call (answered_in world c t asking.op) (caller_of c t) (command_connection c)
+    asking.op (answered asking.op) in
     omega (arith, row, call)
 
 one_client : (world : World) (c : ℕ) → IsClient c → (world.clients c).session.is_cut ≡ false
@@ -236,9 +237,10 @@ length-next world (Exec c t) within order =
     length-exec world c t (asking_of world c t) order
     (λ op. IsInOrder-answered world c t op order)
 length-next world (Take c t) within order =
-    omega
-    (arith,
-    length-row world c (take_reply t (world.clients c)) (keeps-take t (world.clients c)))
+    omega (
+      arith,
+      length-row world c (take_reply t (world.clients c)) (keeps-take t (world.clients c)),
+    )
 length-next world (Check c t) within order =
     omega (arith, length-step world c (check_row t world.moment) (keeps-check t world.moment))
 length-next world (Wake c t) within order =

@@ -20,3 +20,4 @@ pub mod ThreadSteps
 pub mod Rows
 pub mod ServerSteps
 pub mod Stands
+pub mod Peaks

@@ -12,8 +12,9 @@ use Rattle.lr_wakeups.specs.Joining.{PlacedIn}
 use Rattle.lr_wakeups.specs.Answered.{HasReplyIfAsked}
 use Rattle.lr_wakeups.specs.Standing.{IsCovered}
 
--- Where at most n orders to subscribe were made on a channel, and each channel has a peak. Without
--- a registered thread the client needs none of its own, and one that was cut off has none.
+-- n is at least the number of orders to subscribe that were made on any channel, and each channel
+-- has a peak: a moment by which the holders' leases of its lock have run out. A client that was cut
+-- off has no threads, no latches and no connection, so it has the facts too.
 pub record Facts (n : ℕ) (peak : ChannelOf → ℕ) (client : Client) (connection : Connection)
     : Type 0 where
   pub accounted : (channel : ChannelOf)

@@ -59,20 +59,20 @@ OrderKeepsFacts =
     → Facts n peak (record client { session = order_taken client.session })
     (connection_after_order order connection)
 
--- The server sends a message, and drops the connection not. It may lower the peak of the message's
--- channel, and no other.
+-- The server sends a message, and doesn't drop the connection. The peak of the message's channel may
+-- be another then, and no other peak may be lower.
 abbrev pub PostKeepsFacts : Type 0
 PostKeepsFacts =
-    (n : ℕ) (peak then_ : ChannelOf → ℕ) (client : Client) (connection : Connection) (post : Post)
+    (n : ℕ) (peak peak_after : ChannelOf → ℕ) (client : Client) (connection : Connection) (post : Post)
     → is_overrun post connection ≡ false
     → ((channel : ChannelOf) → same_channel channel post.channel ≡ false
-    → peak channel ≤ then_ channel)
+    → peak channel ≤ peak_after channel)
     → Facts n peak client connection
-    → Facts n then_ client (connection_after_post post connection)
+    → Facts n peak_after client (connection_after_post post connection)
 
 -- peaks may rise
 abbrev pub RaisedPeaksKeepFacts : Type 0
 RaisedPeaksKeepFacts =
-    (n : ℕ) (peak then_ : ChannelOf → ℕ) (client : Client) (connection : Connection)
-    → ((channel : ChannelOf) → peak channel ≤ then_ channel) → Facts n peak client connection
-    → Facts n then_ client connection
+    (n : ℕ) (peak peak_after : ChannelOf → ℕ) (client : Client) (connection : Connection)
+    → ((channel : ChannelOf) → peak channel ≤ peak_after channel) → Facts n peak client connection
+    → Facts n peak_after client connection

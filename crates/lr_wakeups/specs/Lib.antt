@@ -8,3 +8,4 @@ pub mod Answered
 pub mod Standing
 pub mod Facts
 pub mod Keeps
+pub mod Peaks

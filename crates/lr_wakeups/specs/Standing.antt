@@ -37,8 +37,8 @@ blocked_with channel client thread (Some waiter) =
 abbrev pub is_blocked : ChannelOf → Client → ℕ → Bool
 is_blocked channel client thread = blocked_with channel client thread (waiter_in client thread)
 
--- a message of the channel is on its way; or there is a permit; or another thread that is registered
--- there is awake; or a timer of one that was refused isn't later than the peak
+-- A message of the channel is on its way; or there is a permit; or a thread that is registered there
+-- is awake; or the timer of one that was refused isn't later than the peak.
 pub data Stands (peak : ℕ) (channel : ChannelOf) (client : Client) (connection : Connection)
     : Type 0 where
   ByMessage : in_flight channel connection.outbox ≡ true → Stands peak channel client connection
@@ -50,7 +50,7 @@ pub data Stands (peak : ℕ) (channel : ChannelOf) (client : Client) (connection
       → due_of channel client thread ≡ Some moment → moment ≤ peak
       → Stands peak channel client connection
 
--- where a thread was refused on the channel, something stands
+-- Where a thread was refused on the channel, and a message wakes one, something stands.
 pub record IsCovered (peak : ℕ) (channel : ChannelOf) (client : Client) (connection : Connection)
     : Type 0 where
   pub stands : channel_wakes channel.kind ≡ One → (thread : ℕ) → thread ≤ thread_limit

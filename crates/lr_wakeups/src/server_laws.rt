@@ -16,8 +16,8 @@ pub fn an_executed_order_keeps_the_facts()
     ensures { OrderKeepsFacts }
 {}
 
-/// And a message that is sent, where it doesn't drop the connection. It alone may lower a peak, that
-/// of its channel.
+/// And a message that is sent, where it doesn't drop the connection. The peak of its channel may be
+/// lower then: a client whose thread waits there has the message on its way.
 pub fn a_message_keeps_the_facts()
     ensures { PostKeepsFacts }
 {}

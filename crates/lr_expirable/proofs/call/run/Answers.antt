@@ -24,7 +24,7 @@ returns-clause-stands c = λ objects stand.
     c.of-permits.ensures.leases c.settle.ensures.entries objects stand
 
 pub returns-clause-frame : goal.returns-clause-frame
-returns-clause-frame c = 
+returns-clause-frame c =
     others_live c.args.keys.now c.answer.new.keys c.settle.new.self c.of-permits.result.number
     c.of-permits.result.leases c.args.name.now c.as_slice-text.ensures.named _ c.in_ok-answer.answer
     c.args.call.now c.in_ok-answer.ensures.run c.of-permits.ensures.number
