@@ -1,5 +1,5 @@
 -- Live holds end by the peak.
-use Rattle.std.proofs.Common.{◌≡◌, ℕ, ◌+◌, ◌-◌, ◌<◌, ◌≤◌, ◌==◌, nat_lt, max, List, [], ◌∷◌, Bool, true, false, ◌&&◌, Option, Some, None, refl, ap, sym, ◌∙◌, subst, arith, if◌then◌else◌}
+use Rattle.std.proofs.Common.{◌≡◌, ℕ, ◌+◌, ◌-◌, ◌<◌, ◌≤◌, ◌==◌, nat_lt, max, List, [], ◌∷◌, Bool, true, false, Option, Some, None, refl, sym, ◌∙◌, subst, arith, if◌then◌else◌}
 use Rattle.std.specs.Str.{bytes_eq}
 use Rattle.std.proofs.lemmas.Bool.{ltb-true, lt-ltb, false≢true}
 use Rattle.std.proofs.lemmas.Bool.Decides.{same_from_decides, Decides-like}
@@ -27,10 +27,10 @@ use Rattle.lr_model.specs.declared.entry.Act.TheVariants as acts
 use Rattle.lr_model.specs.declared.entry.Entry.{Entry}
 use Rattle.lr_model.specs.declared.hold.Hold.{Hold}
 use Rattle.lr_model.specs.Answer.{Objects, reply_of, objects_after, post_of}
-use Rattle.lr_model.specs.Fenced.{FencedLock, fenced_post, reply_with_token, with_token, take_fenced, fenced_try, fenced_unlock, fenced_renew, fenced_call, fenced_concern}
+use Rattle.lr_model.specs.Fenced.{FencedLock, fenced_post, reply_with_token, with_token, take_fenced, fenced_call, fenced_concern}
 use Rattle.lr_model.specs.History.{State, state_at_start, step, after, objects_by, IsLegal}
 use Rattle.lr_model.specs.Hold.{live_hold, take_hold, give_back_hold, renew_hold, end_hold}
-use Rattle.lr_model.specs.Moment.{is_live, is_lease}
+use Rattle.lr_model.specs.Moment.{is_lease}
 use Rattle.lr_model.specs.Mutex.{lock_post, lock_call, lock_concern}
 use Rattle.lr_model.specs.Outcome.{Outcome, silent_outcome, with_lease}
 use Rattle.lr_model.specs.Table.{put}
