@@ -3,11 +3,13 @@
 //! and its clause is what is proved.
 #![tactic(auto)]
 
+mod peak_laws;
 mod server_laws;
 mod stand_laws;
 mod start_laws;
 mod thread_laws;
 
+pub use peak_laws::{live_holds_end_by_the_peak, refused_calls_wait_until_the_peak};
 pub use server_laws::{
     a_message_keeps_the_facts, a_reply_keeps_the_facts, an_executed_order_keeps_the_facts,
     an_item_keeps_the_facts, raised_peaks_keep_the_facts,
