@@ -1,5 +1,5 @@
 -- The threads of a client that wait until it hears a channel, told one after the other.
-use Rattle.std.proofs.Common.{◌≡◌, ◌==◌, nat_lt, ℕ, zero, suc, ◌+◌, ◌%◌, ◌^◌, ◌<◌, ◌≤◌, List, [], ◌∷◌, ◌++◌, length, map, Bool, true, false, Option, Some, None, if◌then◌else◌, refl, sym, ap, subst, ◌∙◌, arith, ◌⊎◌, inl, inr}
+use Rattle.std.proofs.Common.{◌≡◌, ◌==◌, nat_lt, ℕ, suc, ◌+◌, ◌%◌, ◌^◌, ◌<◌, ◌≤◌, List, [], ◌∷◌, ◌++◌, length, map, Bool, true, false, Option, Some, None, if◌then◌else◌, refl, sym, ap, subst, ◌∙◌, arith, ◌⊎◌, inl, inr}
 use Rattle.std.proofs.lemmas.Bool.{eq-eqb, ne_eqb, cases_eq, ltb-true, ltb-false}
 use Rattle.std.proofs.lemmas.List.{append-nil, length-append, map-append}
 use Rattle.std.proofs.Math.Nat.{mod-add-mod}
@@ -7,13 +7,12 @@ use Rattle.lr_limits.specs.Limits.{thread_limit}
 use Rattle.lr_names.specs.Channel.{ChannelOf}
 use Rattle.lr_model.specs.Board.{numbers_below}
 use Rattle.lr_model.specs.Table.{put}
-use Rattle.lr_model.proofs.Numbers.{below_few}
 use Rattle.lr_model.proofs.Tables.{one_table}
 use Rattle.lr_waiting.specs.declared.waiter.Ask.{Ask}
 use Rattle.lr_waiting.specs.declared.waiter.Stage.TheVariants.{Ready}
 use Rattle.lr_waiting.specs.declared.waiter.Waiter.{Waiter}
 use Rattle.lr_waiting.specs.Latch.{count_on, next_count}
-use Rattle.lr_waiting.specs.Session.{Session, at_stage, is_joining, joins, joined_waiter, joining_threads, joining_ticket, with_joined}
+use Rattle.lr_waiting.specs.Session.{Session, at_stage, is_joining, joins, joined_waiter, joining_ticket, with_joined}
 use Rattle.lr_waiting.specs.Told.{next_ticket}
 use Rattle.lr_session.specs.Stages.{ready_if}
 

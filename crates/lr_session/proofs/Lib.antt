@@ -1,3 +1,2 @@
 pub mod ThreadRequests
-pub mod Watches
 pub mod Joined

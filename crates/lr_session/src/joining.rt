@@ -16,8 +16,8 @@ use lr_names::Channel;
 use lr_waiting::{Ask, Waiter};
 
 impl SessionState {
-    // The threads that wait until the client hears a channel may ask once more, with the next
-    // tickets in order of their numbers. It takes no memory.
+    /// The threads that wait until the client hears a channel may ask once more, with the next
+    /// tickets in order of their numbers. It takes no memory.
     pub(crate) fn wake_joined(&mut self, channel: &Channel, asks: &mut Vec<Ask>)
         requires none { asks.old.items ≡ [] }
         requires room { thread_limit ≤ vec_capacity asks.old }
@@ -65,7 +65,7 @@ impl SessionState {
         is_joining_at(*waiter) && is_same_channel(channel, &self.channel(thread, &waiter.want))
     }
 
-    // What the types say of the requests and of the last ticket.
+    /// What the types say of the requests and of the last ticket.
     pub(crate) fn check_requests(&self)
         ensures requests { AreRequests self.now.waiters }
         ensures turn { self.now.turn < 2 ^ 64 }

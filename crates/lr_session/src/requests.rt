@@ -213,7 +213,7 @@ impl SessionState {
         Ok(Taken::Joining)
     }
 
-    // The request of a thread gets the next ticket.
+    /// The request of a thread gets the next ticket.
     pub(crate) fn make_ready(&mut self, thread: u32, waiter: Waiter) -> Ask
         requires request { IsRequest thread waiter }
         requires begun { IsSome ((session_of self.old).waiters thread) }
@@ -231,7 +231,7 @@ impl SessionState {
         }
     }
 
-    // The request of a thread ends, and the thread leaves its channel where it waits on it.
+    /// The request of a thread ends, and the thread leaves its channel where it waits on it.
     pub(crate) fn end(&mut self, thread: u32, waiter: &Waiter)
         requires { IsRequest thread waiter.now }
         ensures session { session_of self.new

@@ -153,14 +153,14 @@ impl SessionState {
         self.is_cut = true;
     }
 
-    // Why a step of a thread doesn't apply.
+    /// Why a step of a thread doesn't apply.
     pub(crate) fn not_now(&self, thread: u32) -> SessionFault
         ensures { result ≡ NotNow (phase_in (session_of self.now) thread) }
     {
         SessionFault::NotNow(self.phase(thread))
     }
 
-    // A thread of the client as an owner.
+    /// A thread of the client as an owner.
     pub(crate) fn owner(&self, thread: u32) -> Owner
         requires { IsThread thread }
         ensures { result ≡ owner_in (session_of self.now) thread }
@@ -168,7 +168,7 @@ impl SessionState {
         Owner::new(self.client, thread)
     }
 
-    // The channel on which a thread waits that wants this.
+    /// The channel on which a thread waits that wants this.
     pub(crate) fn channel(&self, thread: u32, want: &Want) -> Channel
         requires thread { IsThread thread }
         requires amount { HasAmount (arguments_of want.now.function) want.now }

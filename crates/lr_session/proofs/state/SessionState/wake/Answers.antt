@@ -1,5 +1,4 @@
-use Rattle.std.proofs.Common.{◌≡◌, Option, Some, ap, sym, ◌∙◌}
-use Rattle.lr_waiting.specs.declared.waiter.Waiter.{Waiter}
+use Rattle.std.proofs.Common.{◌≡◌, Some, ap, sym, ◌∙◌}
 use Rattle.lr_waiting.specs.Session.{Session, phase_in, of_waiter, wake_at}
 use Rattle.lr_session.specs.declared.fault.SessionFault.TheVariants.{NotNow}
 use Rattle.lr_session.specs.Value.{SessionValue, session_of, waiter_of}

@@ -1,4 +1,4 @@
-use Rattle.std.proofs.Common.{◌≡◌, ◌≤◌, ◌<◌, ◌+◌, ℕ, List, Vec, Global, vec_len, vec_capacity, Some, None, length, refl, sym, ap, subst, ◌∙◌, arith}
+use Rattle.std.proofs.Common.{◌≡◌, ◌+◌, ℕ, List, Vec, Global, vec_len, vec_capacity, Some, None, length, refl, sym, ap, subst, ◌∙◌, arith}
 use Rattle.lr_waiting.specs.declared.waiter.Ask.{Ask}
 use Rattle.lr_waiting.specs.Session.{Session}
 use Rattle.lr_session.specs.Value.{session_of}
