@@ -155,7 +155,7 @@ fn refuses(session: &mut SessionState, name: &Name) -> bool {
         && session.give_up(1) == Err(cut)
 }
 
-// Whether it does so in each phase.
+// Whether it does so before its first request, and while a thread begins, joins and sleeps.
 fn cut_off(alloc: Global, channel: Channel, name: &Name) -> bool {
     let mut idle = client(alloc);
     let mut fresh = client(alloc);
