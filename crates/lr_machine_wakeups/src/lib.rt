@@ -1,0 +1,7 @@
+//! No wakeup is lost in any schedule of clients whose threads wait. Nothing runs here: a law is a
+//! public function with an empty body, and its clause is what is proved.
+#![tactic(auto)]
+
+mod laws;
+
+pub use laws::live_deadlines_stay_below_the_peak;
