@@ -55,7 +55,7 @@ live-ends later (Some hold) = by (is_live hold.deadline later)
     by false = omega arith
 
 -- what is live later was live before
-pub live-later : (moment later : ℕ) (held : Option Hold) → moment ≤ later
+live-later : (moment later : ℕ) (held : Option Hold) → moment ≤ later
     → deadline_of (live_hold later held) ≤ deadline_of (live_hold moment held)
 live-later moment later None le = omega arith
 live-later moment later (Some hold) le =
@@ -282,13 +282,13 @@ fenced_call-peak peak moment name fenced.Token held ends =
 -- Calls.
 
 -- the peak after a call that tells nobody
-abbrev quiet_peak : Kind → List ℕ → State → ℕ → Op → ℕ → ℕ
+abbrev pub quiet_peak : Kind → List ℕ → State → ℕ → Op → ℕ → ℕ
 quiet_peak kind name state moment op peak =
     if is_about kind name op
     then max peak (deadline_given moment op (reply_of state.objects moment op))
     else peak
 
-quiet-more : (kind : Kind) (name : List ℕ) (state : State) (moment : ℕ) (op : Op) (peak : ℕ)
+pub quiet-more : (kind : Kind) (name : List ℕ) (state : State) (moment : ℕ) (op : Op) (peak : ℕ)
     → peak ≤ quiet_peak kind name state moment op peak
 quiet-more kind name state moment op peak = by (is_about kind name op)
   where

@@ -1,1 +1,7 @@
 mod Deadlines
+mod Asked
+mod Posts
+mod Answers
+mod Entries
+mod Worlds
+mod Schedules

@@ -1,1 +1,3 @@
 pub mod Deadlines
+pub mod Kept
+pub mod Throughout

@@ -1,7 +1,21 @@
 ghost use Rattle.lr_machine_wakeups.specs.Deadlines.{LiveDeadlinesStayBelowThePeak};
+ghost use Rattle.lr_machine_wakeups.specs.Kept.{HaveFacts};
+ghost use Rattle.lr_machine_wakeups.specs.Throughout.{NoWakeupIsLost, ThroughoutEverySchedule};
 
 /// After every legal history, from a server that has just started, no live hold of a lock on whose
 /// channel a message wakes one lasts beyond the lock's peak.
 pub fn live_deadlines_stay_below_the_peak()
     ensures { LiveDeadlinesStayBelowThePeak }
+{}
+
+/// After each event of every schedule within the limits, and before the first, all facts are so of
+/// each client and of the connection by which it subscribes.
+pub fn the_facts_hold_throughout()
+    ensures { ThroughoutEverySchedule HaveFacts }
+{}
+
+/// And what is told to stand for a thread that sleeps, on a channel where a message wakes one, is
+/// never nothing, and no timer that is later than the peak.
+pub fn no_wakeup_is_lost_in_any_schedule()
+    ensures { ThroughoutEverySchedule (λ n world. NoWakeupIsLost world) }
 {}

@@ -4,4 +4,7 @@
 
 mod laws;
 
-pub use laws::live_deadlines_stay_below_the_peak;
+pub use laws::{
+    live_deadlines_stay_below_the_peak, no_wakeup_is_lost_in_any_schedule,
+    the_facts_hold_throughout,
+};
