@@ -5,8 +5,6 @@ use Rattle.std.proofs.lemmas.Option.{same_Some}
 use Rattle.lr_limits.specs.Limits.{hold_limit, token_limit}
 use Rattle.lr_names.specs.Channel.{channel_wakes}
 use Rattle.lr_names.specs.Owner.{ThreadOfClient, same_owner}
-use Rattle.lr_names.specs.declared.kind.Kind.{Kind}
-use Rattle.lr_names.specs.declared.kind.Kind.TheVariants as kinds
 use Rattle.lr_names.specs.declared.kind.Wakes.TheVariants.{One}
 use Rattle.lr_names.specs.declared.post.Post.{Post}
 use Rattle.lr_objects.specs.Kinds.{call_of, call_kind}
@@ -36,11 +34,11 @@ use Rattle.lr_waiting.specs.declared.waiter.Stage.{Stage}
 use Rattle.lr_waiting.specs.declared.waiter.Stage.TheVariants.{Asked}
 use Rattle.lr_waiting.specs.declared.waiter.Waiter.{Waiter}
 use Rattle.lr_waiting.specs.Client.{Client, waiter_in, asked_at, asked_by, asked_of}
-use Rattle.lr_waiting.specs.Peak.{deadline_of, live_until, peak_after}
+use Rattle.lr_waiting.specs.Peak.{deadline_of, live_until}
 use Rattle.lr_waiting.specs.Session.{channel_in}
 use Rattle.lr_wakeups.specs.Standing.{IsInTime}
 use Rattle.lr_machine.specs.Sound.{IsInOrder}
-use Rattle.lr_machine.specs.World.{World, first_state, state_of}
+use Rattle.lr_machine.specs.World.{World, state_of}
 use Rattle.lr_machine_wakeups.specs.Kept.{peak_of, IsAsked, AskedAt, AskedWith}
 use Rattle.lr_machine_wakeups.proofs.Deadlines.{below-history}
 
@@ -251,12 +249,12 @@ pub answered-in_time : (world : World) (client : Client) (thread : ℕ) (asking 
 answered-in_time world client thread asking order asked sent waiter was = record {
   timer = λ one blocked.
       let told =
-          tells-want (state_of world).objects world.moment waiter.want.function waiter.want.name
-          waiter.want mine.owner (record { client = client.session.client; thread = thread })
-          mine.lease mine.queue one (ap (λ reply. blocks reply waiter.want.function) (sym same) ∙ blocked) in
+      tells-want (state_of world).objects world.moment waiter.want.function waiter.want.name
+      waiter.want mine.owner (record { client = client.session.client; thread = thread })
+      mine.lease mine.queue one (ap (λ reply. blocks reply waiter.want.function) (sym same) ∙ blocked) in
       let below =
-          below-history world.entries (channel_in client.session thread waiter).kind
-          waiter.want.name order.legal one world.moment order.in_time in
+      below-history world.entries (channel_in client.session thread waiter).kind
+      waiter.want.name order.legal one world.moment order.in_time in
       (told.0, same ∙ told.1, omega (arith, told.2, below, mine.past));
 }
   where

@@ -1,6 +1,5 @@
 -- No live hold of a lock lasts beyond its peak: what each call leaves, and each history.
-use Rattle.std.proofs.Common.{◌≡◌, ℕ, ◌+◌, ◌-◌, ◌≤◌, ◌<◌, ◌==◌, max, nat_lt, List, [], ◌∷◌, Bool, true, false, ◌&&◌, Option, Some, None, if◌then◌else◌, refl, sym, ap, ◌∙◌, subst, arith}
-use Rattle.std.specs.Str.{bytes_eq}
+use Rattle.std.proofs.Common.{◌≡◌, ℕ, ◌+◌, ◌-◌, ◌≤◌, ◌<◌, ◌==◌, max, List, [], ◌∷◌, Bool, true, false, Option, Some, None, if◌then◌else◌, refl, sym, ◌∙◌, subst, arith}
 use Rattle.std.proofs.lemmas.Bool.{false≢true, ltb-true, lt-ltb}
 use Rattle.std.proofs.lemmas.Slice.Eq.{bytes_eq-Decides}
 use Rattle.lr_limits.specs.Limits.{hold_limit, token_limit}
@@ -8,7 +7,7 @@ use Rattle.lr_names.specs.Channel.{channel_wakes}
 use Rattle.lr_names.specs.Owner.{ThreadOfClient, same_owner}
 use Rattle.lr_names.specs.declared.kind.Kind.{Kind}
 use Rattle.lr_names.specs.declared.kind.Kind.TheVariants as kinds
-use Rattle.lr_names.specs.declared.kind.Wakes.TheVariants.{One, All}
+use Rattle.lr_names.specs.declared.kind.Wakes.TheVariants.{One}
 use Rattle.lr_names.specs.declared.post.Post.{Post}
 use Rattle.lr_objects.specs.Op.{call_on}
 use Rattle.lr_objects.specs.declared.op.Op.{Op}
@@ -19,19 +18,18 @@ use Rattle.lr_objects.specs.declared.lock.LockCall.TheVariants as lock
 use Rattle.lr_objects.specs.declared.fenced.FencedCall.{FencedCall}
 use Rattle.lr_objects.specs.declared.fenced.FencedCall.TheVariants as fenced
 use Rattle.lr_objects.specs.declared.reply.Reply.{Reply}
-use Rattle.lr_objects.specs.declared.reply.Reply.TheVariants.{Granted, Busy, Kept, Freed, NotHeld, Renewed, Lost, TooDeep, BadLease, GrantedToken, TokensSpent}
+use Rattle.lr_objects.specs.declared.reply.Reply.TheVariants.{Granted, Busy, Kept, Freed, NotHeld, Renewed, Lost, TooDeep, BadLease, TokensSpent}
 use Rattle.lr_model.specs.declared.entry.Act.{Act}
-use Rattle.lr_model.specs.declared.entry.Act.TheVariants.{Call as calling, Subscribe, Unsubscribe, Open, Close, Drain}
+use Rattle.lr_model.specs.declared.entry.Act.TheVariants.{Call as calling}
 use Rattle.lr_model.specs.declared.entry.Entry.{Entry}
 use Rattle.lr_model.specs.declared.hold.Hold.{Hold}
 use Rattle.lr_model.specs.Answer.{Objects, reply_of, objects_after, post_of}
 use Rattle.lr_model.specs.Fenced.{FencedLock, fenced_post, reply_with_token, with_token, take_fenced, fenced_call, fenced_concern}
-use Rattle.lr_model.specs.History.{State, objects_by, step, after, IsLegal, MayFollow}
+use Rattle.lr_model.specs.History.{State, objects_by, step, after, IsLegal}
 use Rattle.lr_model.specs.Hold.{live_hold, take_hold, give_back_hold, renew_hold, end_hold}
 use Rattle.lr_model.specs.Moment.{is_lease, is_live}
 use Rattle.lr_model.specs.Mutex.{lock_post, lock_call, lock_concern}
 use Rattle.lr_model.specs.Outcome.{Outcome, silent_outcome, with_lease}
-use Rattle.lr_model.specs.Table.{put}
 use Rattle.lr_model.specs.Tenure.{lease_in}
 use Rattle.lr_waiting.specs.Peak.{deadline_of, live_until, is_about, tells, gives_deadline, deadline_given, peak_by_call, peak_by_act, peak_after}
 use Rattle.lr_machine.specs.World.{first_state}

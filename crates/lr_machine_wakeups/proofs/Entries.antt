@@ -1,15 +1,14 @@
 -- How the peaks and the connections of a world change as its history grows.
-use Rattle.std.proofs.Common.{◌≡◌, ◌≢◌, ℕ, ◌+◌, ◌-◌, ◌*◌, ◌≤◌, ◌==◌, List, [], ◌∷◌, ◌++◌, Bool, true, false, ◌||◌, if◌then◌else◌, refl, sym, ap, ◌∙◌, arith, ◌⊎◌, inl, inr}
+use Rattle.std.proofs.Common.{◌≡◌, ℕ, ◌==◌, List, [], ◌∷◌, ◌++◌, Bool, true, false, ◌||◌, if◌then◌else◌, refl, sym, ap, ◌∙◌, arith, ◌⊎◌, inl, inr}
 use Rattle.std.specs.List.{list_any}
 use Rattle.std.proofs.lemmas.Bool.{eq-eqb, ne_eqb, cases_eq}
 use Rattle.lr_names.specs.Channel.{ChannelOf}
 use Rattle.lr_names.specs.declared.kind.Kind.{Kind}
-use Rattle.lr_model.specs.declared.entry.Act.TheVariants.{Close}
 use Rattle.lr_model.specs.declared.entry.Entry.{Entry}
 use Rattle.lr_model.specs.Board.{Connection, closed_connection, with_connection}
-use Rattle.lr_model.specs.History.{State, step, after, entry_of}
+use Rattle.lr_model.specs.History.{State, step, after}
 use Rattle.lr_waiting.specs.Peak.{peak_by_act, peak_after}
-use Rattle.lr_machine.specs.Clients.{command_connection, subscription_connection, client_caller}
+use Rattle.lr_machine.specs.Clients.{command_connection, subscription_connection}
 use Rattle.lr_machine.specs.Within.{IsClient}
 use Rattle.lr_machine.specs.World.{World, first_state, state_of, connection_of, with_entry, closes_of_all, with_cut}
 use Rattle.lr_machine_laws.proofs.Closes.{closed_board, kept_open}

@@ -30,9 +30,9 @@ use Rattle.lr_model.specs.Hold.{live_hold, holding, freeing, take_hold, give_bac
 use Rattle.lr_model.specs.Moment.{is_lease}
 use Rattle.lr_model.specs.Mutex.{lock_post, lock_call}
 use Rattle.lr_model.specs.Outcome.{Outcome, silent_outcome, with_lease}
-use Rattle.lr_model.specs.Permits.{Permits, PermitLease, permits_post, with_new_lease, without_lease, lease_under, least_deadline, live_permits, set_number, take_permit, take_beside, take_of, give_back_lease, permit_call}
-use Rattle.lr_model.specs.ReadWrite.{ReadWriteLock, LockOutcome, hold_of, writer_beside, live_holds, with_hold, without_hold, holding_so, first_hold, take_again, read_unhindered, read_beside, write_first, write_with, post_at_end, ended, give_back_with, renew_with, read_write_call}
-use Rattle.lr_model.specs.Semaphore.{semaphore_post, free_permits, sem_try, sem_set, semaphore_call}
+use Rattle.lr_model.specs.Permits.{Permits, PermitLease, with_new_lease, lease_under, least_deadline, live_permits, set_number, take_permit, take_beside, take_of, give_back_lease, permit_call}
+use Rattle.lr_model.specs.ReadWrite.{ReadWriteLock, hold_of, writer_beside, live_holds, without_hold, holding_so, first_hold, take_again, read_unhindered, read_beside, write_first, write_with, post_at_end, ended, give_back_with, renew_with, read_write_call}
+use Rattle.lr_model.specs.Semaphore.{semaphore_post, free_permits, semaphore_call}
 
 abbrev pub NamesNoOwner : Option Post → Type 0
 NamesNoOwner None = Unit {0}

@@ -1,5 +1,5 @@
 -- Throughout every schedule the facts are so, and no wakeup is lost.
-use Rattle.std.proofs.Common.{◌≡◌, ℕ, suc, ◌+◌, ◌<◌, ◌^◌, List, [], ◌∷◌, ◌++◌, length, length-append, sym, ap, subst, arith}
+use Rattle.std.proofs.Common.{◌≡◌, ℕ, suc, ◌+◌, ◌<◌, ◌^◌, List, [], ◌∷◌, ◌++◌, length, length-append, ap, subst, arith}
 use Rattle.std.specs.List.{AllByRecursion}
 use Rattle.lr_machine.specs.declared.event.Event.{Event}
 use Rattle.lr_machine.specs.Sound.{IsInOrder}
@@ -40,11 +40,15 @@ facts_throughout events within few front later split =
     (within-front front later (subst (AllByRecursion IsWithin) split within))
     IsInOrder-first_world kept-first)
 
-pub no_wakeup_is_lost : ThroughoutEverySchedule (λ n world. NoWakeupIsLost world)
-no_wakeup_is_lost events within few front later split = record {
+-- where the facts are so, no wakeup is lost
+pub none_lost : (n : ℕ) (world : World) → HaveFacts n world → NoWakeupIsLost world
+none_lost n world kept = record {
   stands = λ c thread waiter stand client inside was one told.
-      let world : World = world_after first_world front in
-      no_lost_wakeup (length front) (peak_of world) (world.clients c) (connection_of world c)
-      ((facts_throughout events within few front later split).facts c client) (state_of world)
-      world.moment thread waiter stand inside was one told;
+      no_lost_wakeup n (peak_of world) (world.clients c) (connection_of world c)
+      (kept.facts c client) (state_of world) world.moment thread waiter stand inside was one told;
 }
+
+pub none_lost_throughout : ThroughoutEverySchedule (λ n world. NoWakeupIsLost world)
+none_lost_throughout events within few front later split =
+    none_lost (length front) (world_after first_world front)
+    (facts_throughout events within few front later split)

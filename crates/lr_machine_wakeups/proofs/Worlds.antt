@@ -1,5 +1,5 @@
 -- Each event keeps the facts of all clients.
-use Rattle.std.proofs.Common.{◌≡◌, ℕ, suc, ◌+◌, ◌*◌, ◌<◌, ◌≤◌, ◌==◌, ◌^◌, max, nat_le, List, [], ◌∷◌, slice_get, Bool, true, false, not, ◌&&◌, Option, Some, None, if◌then◌else◌, refl, sym, ap, ◌∙◌, subst, arith}
+use Rattle.std.proofs.Common.{◌≡◌, ℕ, suc, ◌<◌, ◌≤◌, ◌==◌, ◌^◌, nat_le, List, [], ◌∷◌, slice_get, Bool, true, false, not, ◌&&◌, Option, Some, None, if◌then◌else◌, refl, sym, ap, ◌∙◌, subst, arith}
 use Rattle.std.specs.List.{list_any}
 use Rattle.std.specs.Str.{bytes_eq}
 use Rattle.std.proofs.lemmas.Bool.{false≢true, eq-eqb, eqb-true}
@@ -31,7 +31,7 @@ use Rattle.lr_machine.specs.declared.event.Event.TheVariants.{Begin, Ask, Exec, 
 use Rattle.lr_machine.specs.Clients.{client_id, command_connection, subscription_connection, operator, operator_connection, caller_of, client_caller}
 use Rattle.lr_machine.specs.Sound.{IsInOrder, IsHeard, AreConnected}
 use Rattle.lr_machine.specs.Within.{IsClient, IsWithin}
-use Rattle.lr_machine.specs.World.{World, first_state, first_client, first_world, state_of, connection_of, force_of, next_row, next_step, with_entry, cut_among, with_cut, clients_dropped, dropped_at, with_call, answered_in, next_exec, next_order, next_item, next_cut, next}
+use Rattle.lr_machine.specs.World.{World, first_state, first_world, state_of, connection_of, force_of, next_row, next_step, with_entry, cut_among, with_cut, clients_dropped, dropped_at, with_call, answered_in, next_exec, next_order, next_item, next}
 use Rattle.lr_machine_laws.proofs.Connections.{overrun-heard, AreConnected-after_post}
 use Rattle.lr_machine_laws.proofs.Worlds.{IsInOrder-answered}
 use Rattle.lr_machine_wakeups.specs.Kept.{peak_for, peak_of, AreAsked, HaveFacts}

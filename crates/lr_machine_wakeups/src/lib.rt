@@ -5,6 +5,7 @@
 mod laws;
 
 pub use laws::{
-    live_deadlines_stay_below_the_peak, no_wakeup_is_lost_in_any_schedule,
-    the_facts_hold_throughout,
+    an_event_keeps_the_facts, live_deadlines_stay_below_the_peak,
+    no_wakeup_is_lost_in_any_schedule, no_wakeup_is_lost_where_the_facts_hold,
+    the_facts_hold_before_the_first_event, the_facts_hold_throughout,
 };
