@@ -39,7 +39,7 @@ use Rattle.lr_waiting.specs.Session.{channel_in}
 use Rattle.lr_wakeups.specs.Standing.{IsInTime}
 use Rattle.lr_machine.specs.Sound.{IsInOrder}
 use Rattle.lr_machine.specs.World.{World, state_of}
-use Rattle.lr_machine_wakeups.specs.Kept.{peak_of, IsAsked, AskedAt, AskedWith}
+use Rattle.lr_machine_wakeups.specs.WorldFacts.{peak_of, IsAsked, AskedAt, AskedWith}
 use Rattle.lr_machine_wakeups.proofs.Deadlines.{below-history}
 
 -- a reply that refuses a call says how long to wait, and that is no later than this
@@ -254,7 +254,7 @@ answered-in_time world client thread asking order asked sent waiter was = record
       mine.lease mine.queue one (ap (λ reply. blocks reply waiter.want.function) (sym same) ∙ blocked) in
       let below =
       below-history world.entries (channel_in client.session thread waiter).kind
-      waiter.want.name order.legal one world.moment order.in_time in
+      waiter.want.name order.legal world.moment order.in_time in
       (told.0, same ∙ told.1, omega (arith, told.2, below, mine.past));
 }
   where

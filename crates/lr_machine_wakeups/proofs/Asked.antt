@@ -21,7 +21,7 @@ use Rattle.lr_waiting.specs.declared.watch.WatchKey.{WatchKey}
 use Rattle.lr_waiting.specs.Client.{Client, client_row, with_reply, take_with, take_reply}
 use Rattle.lr_waiting.specs.Latch.{acknowledge_in, acknowledge_at, is_due, is_subscribed, checked_in, leave_at, next_count, register_at, register_in, woken_in}
 use Rattle.lr_waiting.specs.Session.{Session, begin_row, begin_at, new_waiter, ask_row, ask_at, asked, asking_for, owner_in, lease_asked, may_wait, take_row, take_at, check_row, check_at, checked, wake_row, wake_at, woken, fire_row, fire_at, quit_row, quit_at, pushed, of_waiter, taken, refused, registered, without_waiter, watched_by, watch_begun, watch_ended, waits_for, due_after, key_in, entry_for, channel_in, with_latches, with_stage, with_ticket, with_waiter, with_joined, is_joining, joined_waiter, joining_ticket, at_stage}
-use Rattle.lr_machine_wakeups.specs.Kept.{AskedAt, AskedWith, AreAsked}
+use Rattle.lr_machine_wakeups.specs.WorldFacts.{AskedAt, AskedWith, AreAsked}
 
 -- time goes on
 pub asked-later : (moment later : ℕ) (found : Option Waiter) → moment ≤ later

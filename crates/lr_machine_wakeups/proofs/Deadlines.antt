@@ -1,281 +1,26 @@
 -- No live hold of a lock lasts beyond its peak: what each call leaves, and each history.
-use Rattle.std.proofs.Common.{◌≡◌, ℕ, ◌+◌, ◌-◌, ◌≤◌, ◌<◌, ◌==◌, max, List, [], ◌∷◌, Bool, true, false, Option, Some, None, if◌then◌else◌, refl, sym, ◌∙◌, subst, arith}
-use Rattle.std.proofs.lemmas.Bool.{false≢true, ltb-true, lt-ltb}
+use Rattle.std.proofs.Common.{◌≡◌, ℕ, ◌≤◌, max, List, [], ◌∷◌, Bool, true, false, if◌then◌else◌, refl, sym, subst, arith}
 use Rattle.std.proofs.lemmas.Slice.Eq.{bytes_eq-Decides}
-use Rattle.lr_limits.specs.Limits.{hold_limit, token_limit}
-use Rattle.lr_names.specs.Channel.{channel_wakes}
-use Rattle.lr_names.specs.Owner.{ThreadOfClient, same_owner}
 use Rattle.lr_names.specs.declared.kind.Kind.{Kind}
 use Rattle.lr_names.specs.declared.kind.Kind.TheVariants as kinds
-use Rattle.lr_names.specs.declared.kind.Wakes.TheVariants.{One}
-use Rattle.lr_names.specs.declared.post.Post.{Post}
 use Rattle.lr_objects.specs.Op.{call_on}
 use Rattle.lr_objects.specs.declared.op.Op.{Op}
 use Rattle.lr_objects.specs.declared.kinds.Call.{Call}
 use Rattle.lr_objects.specs.declared.kinds.Call.TheVariants as calls
-use Rattle.lr_objects.specs.declared.lock.LockCall.{LockCall}
-use Rattle.lr_objects.specs.declared.lock.LockCall.TheVariants as lock
-use Rattle.lr_objects.specs.declared.fenced.FencedCall.{FencedCall}
-use Rattle.lr_objects.specs.declared.fenced.FencedCall.TheVariants as fenced
-use Rattle.lr_objects.specs.declared.reply.Reply.{Reply}
-use Rattle.lr_objects.specs.declared.reply.Reply.TheVariants.{Granted, Busy, Kept, Freed, NotHeld, Renewed, Lost, TooDeep, BadLease, TokensSpent}
 use Rattle.lr_model.specs.declared.entry.Act.{Act}
 use Rattle.lr_model.specs.declared.entry.Act.TheVariants.{Call as calling}
 use Rattle.lr_model.specs.declared.entry.Entry.{Entry}
-use Rattle.lr_model.specs.declared.hold.Hold.{Hold}
 use Rattle.lr_model.specs.Answer.{Objects, reply_of, objects_after, post_of}
-use Rattle.lr_model.specs.Fenced.{FencedLock, fenced_post, reply_with_token, with_token, take_fenced, fenced_call, fenced_concern}
+use Rattle.lr_model.specs.Fenced.{FencedLock, fenced_call}
 use Rattle.lr_model.specs.History.{State, objects_by, step, after, IsLegal}
-use Rattle.lr_model.specs.Hold.{live_hold, take_hold, give_back_hold, renew_hold, end_hold}
-use Rattle.lr_model.specs.Moment.{is_lease, is_live}
-use Rattle.lr_model.specs.Mutex.{lock_post, lock_call, lock_concern}
-use Rattle.lr_model.specs.Outcome.{Outcome, silent_outcome, with_lease}
-use Rattle.lr_model.specs.Tenure.{lease_in}
-use Rattle.lr_waiting.specs.Peak.{deadline_of, live_until, is_about, tells, gives_deadline, deadline_given, peak_by_call, peak_by_act, peak_after}
+use Rattle.lr_model.specs.Mutex.{lock_call}
+use Rattle.lr_waiting.specs.Peak.{live_until, is_about, tells, deadline_given, peak_by_call, peak_by_act, peak_after}
 use Rattle.lr_machine.specs.World.{first_state}
 use Rattle.lr_laws.proofs.NameTables.{put_at}
+use Rattle.lr_model.specs.ReadWrite.{ReadWriteLock, live_holds, last_deadline, read_write_call}
 use Rattle.lr_machine_wakeups.specs.Deadlines.{IsBelow}
-
--- One hold.
-
--- from a moment on a hold that is live lasts no longer than this
-abbrev pub EndsBy : ℕ → ℕ → Option Hold → Type 0
-EndsBy peak moment held =
-    (later : ℕ) → moment ≤ later → deadline_of (live_hold later held) ≤ peak
-
--- what is live lasts no longer than the hold says
-live-ends : (later : ℕ) (held : Option Hold) → deadline_of (live_hold later held) ≤ deadline_of held
-live-ends later None = omega arith
-live-ends later (Some hold) = by (is_live hold.deadline later)
-  where
-    by : (live : Bool) → deadline_of (if live then Some hold else None) ≤ hold.deadline
-    by true = omega arith
-    by false = omega arith
-
--- what is live later was live before
-live-later : (moment later : ℕ) (held : Option Hold) → moment ≤ later
-    → deadline_of (live_hold later held) ≤ deadline_of (live_hold moment held)
-live-later moment later None le = omega arith
-live-later moment later (Some hold) le =
-    by (is_live hold.deadline moment) (is_live hold.deadline later) refl refl
-  where
-    by : (now then_ : Bool) → is_live hold.deadline moment ≡ now
-        → is_live hold.deadline later ≡ then_
-        → deadline_of (if then_ then Some hold else None)
-        ≤ deadline_of (if now then Some hold else None)
-    by true true e f = omega arith
-    by true false e f = omega arith
-    by false false e f = omega arith
-    by false true e f =
-        let before : later < hold.deadline = ltb-true later hold.deadline f in
-        absurd (false≢true (sym e ∙ lt-ltb moment hold.deadline (omega (arith, before, le))))
-
-ends-sooner : (peak more moment : ℕ) (held : Option Hold) → peak ≤ more
-    → EndsBy peak moment held → EndsBy more moment held
-ends-sooner peak more moment held le ends later from = omega (arith, ends later from, le)
-
-ends-given : (peak moment deadline : ℕ) (hold : Hold) → hold.deadline ≡ deadline
-    → EndsBy (max peak deadline) moment (Some hold)
-ends-given peak moment deadline hold is later from =
-    omega (arith, live-ends later (Some hold), is)
-
-ends-none : (peak moment : ℕ) → EndsBy peak moment None
-ends-none peak moment later from = omega arith
-
--- a deadline that a reply gives may raise the peak
-abbrev pub peak_given : ℕ → ℕ → ℕ → Reply → ℕ
-peak_given peak moment lease reply =
-    max peak (if gives_deadline reply then moment + lease else 0)
-
--- an outcome after which the hold lasts no longer than the peak that its reply gives
-abbrev pub GivesPeak : ℕ → ℕ → ℕ → Outcome (Option Hold) → Type 0
-GivesPeak peak moment lease outcome =
-    EndsBy (peak_given peak moment lease outcome.reply) moment outcome.object
-
-module _ (peak moment lease : ℕ) (owner : ThreadOfClient) where
-  kept : (reply : Reply) (held : Option Hold) → EndsBy peak moment held
-      → EndsBy (peak_given peak moment lease reply) moment held
-  kept reply held ends =
-      ends-sooner peak (peak_given peak moment lease reply) moment held (omega arith) ends
-
-  take_hold-peak : (held : Option Hold) → EndsBy peak moment held
-      → GivesPeak peak moment lease (take_hold moment owner lease held)
-  take_hold-peak None ends =
-      ends-given peak moment (moment + lease)
-      (record { owner = owner; count = 1; deadline = moment + lease }) refl
-  take_hold-peak (Some hold) ends =
-      by (same_owner hold.owner owner) (hold.count == hold_limit)
-    where
-      by : (own full : Bool)
-          → GivesPeak peak moment lease
-          (if own
-          then (if full then silent_outcome TooDeep (Some hold)
-          else silent_outcome Granted
-          (Some (record { owner = owner; count = hold.count + 1; deadline = moment + lease })))
-          else silent_outcome (Busy (hold.deadline - moment)) (Some hold))
-      by true true = kept TooDeep (Some hold) ends
-      by true false =
-          ends-given peak moment (moment + lease)
-          (record { owner = owner; count = hold.count + 1; deadline = moment + lease }) refl
-      by false full = kept (Busy (hold.deadline - moment)) (Some hold) ends
-
-  give_back_hold-peak : (post : Option Post) (held : Option Hold) → EndsBy peak moment held
-      → GivesPeak peak moment lease (give_back_hold post moment owner lease held)
-  give_back_hold-peak post None ends = kept NotHeld None ends
-  give_back_hold-peak post (Some hold) ends = by (same_owner hold.owner owner) (hold.count == 1)
-    where
-      by : (own last : Bool)
-          → GivesPeak peak moment lease
-          (if own
-          then (if last then record { reply = Freed; object = None; post = post }
-          else silent_outcome Kept
-          (Some (record { owner = owner; count = hold.count - 1; deadline = moment + lease })))
-          else silent_outcome NotHeld (Some hold))
-      by true true = ends-none (peak_given peak moment lease Freed) moment
-      by true false =
-          ends-given peak moment (moment + lease)
-          (record { owner = owner; count = hold.count - 1; deadline = moment + lease }) refl
-      by false last = kept NotHeld (Some hold) ends
-
-  renew_hold-peak : (held : Option Hold) → EndsBy peak moment held
-      → GivesPeak peak moment lease (renew_hold moment owner lease held)
-  renew_hold-peak None ends = kept Lost None ends
-  renew_hold-peak (Some hold) ends = by (same_owner hold.owner owner)
-    where
-      by : (own : Bool)
-          → GivesPeak peak moment lease
-          (if own
-          then silent_outcome Renewed
-          (Some (record { owner = owner; count = hold.count; deadline = moment + lease }))
-          else silent_outcome Lost (Some hold))
-      by true =
-          ends-given peak moment (moment + lease)
-          (record { owner = owner; count = hold.count; deadline = moment + lease }) refl
-      by false = kept Lost (Some hold) ends
-
-end_hold-peak : (peak moment : ℕ) (post : Option Post) (held : Option Hold)
-    → EndsBy peak moment held → GivesPeak peak moment 0 (end_hold post held)
-end_hold-peak peak moment post None ends = ends-sooner peak (max peak 0) moment None (omega arith) ends
-end_hold-peak peak moment post (Some hold) ends = ends-none (peak_given peak moment 0 Freed) moment
-
--- a hold that is live from the moment on
-ends-live : (peak moment : ℕ) (held : Option Hold) → EndsBy peak moment held
-    → EndsBy peak moment (live_hold moment held)
-ends-live peak moment None ends = ends
-ends-live peak moment (Some hold) ends = by (is_live hold.deadline moment)
-  where
-    by : (live : Bool) → EndsBy peak moment (if live then Some hold else None)
-    by true = ends
-    by false = ends-none peak moment
-
--- a lease out of range changes nothing
-leased-peak : (peak moment lease rest : ℕ) (held : Option Hold) (outcome : Outcome (Option Hold))
-    → EndsBy peak moment held → GivesPeak peak moment lease outcome
-    → GivesPeak peak moment lease (with_lease rest held outcome)
-leased-peak peak moment lease rest held outcome ends gives = by (is_lease rest)
-  where
-    by : (is : Bool)
-        → GivesPeak peak moment lease (if is then outcome else silent_outcome BadLease held)
-    by true = gives
-    by false = ends-sooner peak (max peak 0) moment held (omega arith) ends
-
--- The lease that a call on a lock gives.
-
-abbrev lock_lease : LockCall → ℕ
-lock_lease call = lease_in (lock_concern call)
-
-lock_call-peak : (peak moment : ℕ) (name : List ℕ) (call : LockCall) (held : Option Hold)
-    → EndsBy peak moment held
-    → GivesPeak peak moment (lock_lease call) (lock_call name moment call held)
-lock_call-peak peak moment name (lock.Try owner lease) held ends =
-    leased-peak peak moment lease lease held _ ends
-    (take_hold-peak peak moment lease owner (live_hold moment held)
-    (ends-live peak moment held ends))
-lock_call-peak peak moment name (lock.Unlock owner rest) held ends =
-    leased-peak peak moment rest rest held _ ends
-    (give_back_hold-peak peak moment rest owner (Some (lock_post name)) (live_hold moment held)
-    (ends-live peak moment held ends))
-lock_call-peak peak moment name (lock.Renew owner lease) held ends =
-    leased-peak peak moment lease lease held _ ends
-    (renew_hold-peak peak moment lease owner (live_hold moment held)
-    (ends-live peak moment held ends))
-lock_call-peak peak moment name lock.Force held ends =
-    end_hold-peak peak moment (Some (lock_post name)) (live_hold moment held)
-    (ends-live peak moment held ends)
-
--- A fenced lock.
-
-abbrev fenced_lease : FencedCall → ℕ
-fenced_lease call = lease_in (fenced_concern call)
-
-abbrev FencedGivesPeak : ℕ → ℕ → ℕ → Outcome FencedLock → Type 0
-FencedGivesPeak peak moment lease outcome =
-    EndsBy (peak_given peak moment lease outcome.reply) moment outcome.object.held
-
--- a token in the reply gives the same deadline
-token-gives : (token : ℕ) (reply : Reply)
-    → gives_deadline (reply_with_token token reply) ≡ gives_deadline reply
-token-gives token Granted = refl
-token-gives token _ = refl
-
-with_token-peak : (peak moment lease token : ℕ) (outcome : Outcome (Option Hold))
-    → GivesPeak peak moment lease outcome
-    → FencedGivesPeak peak moment lease (with_token token outcome)
-with_token-peak peak moment lease token outcome gives =
-    subst
-    (λ b. EndsBy (max peak (if b then moment + lease else 0)) moment outcome.object)
-    (sym (token-gives token outcome.reply)) gives
-
-take_fenced-peak : (peak moment lease : ℕ) (owner : ThreadOfClient) (token : ℕ)
-    (held : Option Hold) → EndsBy peak moment held
-    → FencedGivesPeak peak moment lease (take_fenced moment owner lease token held)
-take_fenced-peak peak moment lease owner token None ends = by (token == token_limit)
-  where
-    by : (spent : Bool)
-        → FencedGivesPeak peak moment lease
-        (if spent then silent_outcome TokensSpent (record { held = None; token = token })
-        else with_token (token + 1) (take_hold moment owner lease None))
-    by true = ends-none (peak_given peak moment lease TokensSpent) moment
-    by false =
-        with_token-peak peak moment lease (token + 1) (take_hold moment owner lease None)
-        (take_hold-peak peak moment lease owner None ends)
-take_fenced-peak peak moment lease owner token (Some hold) ends =
-    with_token-peak peak moment lease token (take_hold moment owner lease (Some hold))
-    (take_hold-peak peak moment lease owner (Some hold) ends)
-
-fenced_leased-peak : (peak moment lease rest : ℕ) (held : FencedLock)
-    (outcome : Outcome FencedLock)
-    → EndsBy peak moment held.held → FencedGivesPeak peak moment lease outcome
-    → FencedGivesPeak peak moment lease (with_lease rest held outcome)
-fenced_leased-peak peak moment lease rest held outcome ends gives = by (is_lease rest)
-  where
-    by : (is : Bool)
-        → FencedGivesPeak peak moment lease (if is then outcome else silent_outcome BadLease held)
-    by true = gives
-    by false = ends-sooner peak (max peak 0) moment held.held (omega arith) ends
-
-fenced_call-peak : (peak moment : ℕ) (name : List ℕ) (call : FencedCall) (held : FencedLock)
-    → EndsBy peak moment held.held
-    → FencedGivesPeak peak moment (fenced_lease call) (fenced_call name moment call held)
-fenced_call-peak peak moment name (fenced.Try owner lease) held ends =
-    fenced_leased-peak peak moment lease lease held _ ends
-    (take_fenced-peak peak moment lease owner held.token (live_hold moment held.held)
-    (ends-live peak moment held.held ends))
-fenced_call-peak peak moment name (fenced.Unlock owner rest) held ends =
-    fenced_leased-peak peak moment rest rest held _ ends
-    (with_token-peak peak moment rest held.token
-    (give_back_hold (Some (fenced_post name)) moment owner rest (live_hold moment held.held))
-    (give_back_hold-peak peak moment rest owner (Some (fenced_post name))
-    (live_hold moment held.held)
-    (ends-live peak moment held.held ends)))
-fenced_call-peak peak moment name (fenced.Renew owner lease) held ends =
-    fenced_leased-peak peak moment lease lease held _ ends
-    (with_token-peak peak moment lease held.token
-    (renew_hold moment owner lease (live_hold moment held.held))
-    (renew_hold-peak peak moment lease owner (live_hold moment held.held)
-    (ends-live peak moment held.held ends)))
-fenced_call-peak peak moment name fenced.Token held ends =
-    ends-sooner peak (max peak 0) moment held.held (omega arith) ends
+use Rattle.lr_machine_wakeups.proofs.HoldDeadlines.{EndsBy, live-later, peak_given, lock_lease, lock_call-peak, fenced_lease, fenced_call-peak}
+use Rattle.lr_machine_wakeups.proofs.ReadWriteDeadlines.{live-until, ends-while_live, read_write_lease, read_write_call-peak}
 
 -- Calls.
 
@@ -344,53 +89,78 @@ below-fenced name state moment key (calls.Fenced call) peak below =
 below-fenced name state moment key call peak below =
     below-other kinds.Fenced name state moment (call_on key call) peak below
 
--- after a message the peak is what is left
-below-left : (kind : Kind) → channel_wakes kind ≡ One → (name : List ℕ) (objects : Objects)
-    (moment : ℕ) → IsBelow objects kind name moment (live_until objects kind name moment)
-below-left kinds.Mutex one name objects moment later from =
-    live-later moment later (objects.mutexes name) from
-below-left kinds.Fenced one name objects moment later from =
-    live-later moment later (objects.fenced_locks name).held from
-below-left kinds.Fair one name objects moment later from = omega arith
-below-left kinds.Rw one name objects moment later from = absurd (cc one)
-below-left kinds.Semaphore one name objects moment later from = absurd (cc one)
-below-left kinds.Permits one name objects moment later from = absurd (cc one)
-below-left kinds.Countdown one name objects moment later from = absurd (cc one)
+below-read_write : (name : List ℕ) (state : State) (moment : ℕ) (key : List ℕ) (call : Call)
+    (peak : ℕ) → IsBelow state.objects kinds.Rw name moment peak
+    → IsBelow (objects_after state.objects moment (call_on key call)) kinds.Rw name moment
+    (quiet_peak kinds.Rw name state moment (call_on key call) peak)
+below-read_write name state moment key (calls.ReadWrite call) peak below =
+    put_at
+    (λ same (held : ReadWriteLock). (later : ℕ) → moment ≤ later
+    → last_deadline (live_holds later held) ≤ (if same
+    then peak_given peak moment (read_write_lease call)
+    (read_write_call key moment call (state.objects.read_write_locks key)).reply
+    else peak))
+    state.objects.read_write_locks key name
+    (read_write_call key moment call (state.objects.read_write_locks key)).object
+    (λ here later from.
+    live-until
+    (peak_given peak moment (read_write_lease call)
+    (read_write_call key moment call (state.objects.read_write_locks key)).reply)
+    moment later (read_write_call key moment call (state.objects.read_write_locks key)).object from
+    (read_write_call-peak peak moment key call (state.objects.read_write_locks key)
+    (ends-while_live peak moment (state.objects.read_write_locks key)
+    (subst (λ n. last_deadline (live_holds moment (state.objects.read_write_locks n)) ≤ peak)
+    ((bytes_eq-Decides name key).0 here) (below moment (omega arith))))))
+    (λ there. below)
+below-read_write name state moment key call peak below =
+    below-other kinds.Rw name state moment (call_on key call) peak below
 
-below-quiet : (kind : Kind) → channel_wakes kind ≡ One → (name : List ℕ) (state : State)
+-- after a message the peak is what is left
+below-left : (kind : Kind) (name : List ℕ) (objects : Objects)
+    (moment : ℕ) → IsBelow objects kind name moment (live_until objects kind name moment)
+below-left kinds.Mutex name objects moment later from =
+    live-later moment later (objects.mutexes name) from
+below-left kinds.Fenced name objects moment later from =
+    live-later moment later (objects.fenced_locks name).held from
+below-left kinds.Rw name objects moment later from =
+    let lock = objects.read_write_locks name in
+    let until = last_deadline (live_holds moment lock) in
+    let enough : until ≤ until = omega arith in
+    live-until until moment later lock from (ends-while_live until moment lock enough)
+below-left _ name objects moment later from = omega arith
+
+below-quiet : (kind : Kind) (name : List ℕ) (state : State)
     (moment : ℕ) (op : Op) (peak : ℕ) → IsBelow state.objects kind name moment peak
     → IsBelow (objects_after state.objects moment op) kind name moment
     (quiet_peak kind name state moment op peak)
-below-quiet kinds.Mutex one name state moment op peak below =
+below-quiet kinds.Mutex name state moment op peak below =
     below-mutex name state moment op.name op.call peak below
-below-quiet kinds.Fenced one name state moment op peak below =
+below-quiet kinds.Fenced name state moment op peak below =
     below-fenced name state moment op.name op.call peak below
-below-quiet kinds.Fair one name state moment op peak below = λ later from. omega arith
-below-quiet kinds.Rw one name state moment op peak below = absurd (cc one)
-below-quiet kinds.Semaphore one name state moment op peak below = absurd (cc one)
-below-quiet kinds.Permits one name state moment op peak below = absurd (cc one)
-below-quiet kinds.Countdown one name state moment op peak below = absurd (cc one)
+below-quiet kinds.Rw name state moment op peak below =
+    below-read_write name state moment op.name op.call peak below
+below-quiet _ name state moment op peak below = λ later from. omega arith
 
-below-call : (kind : Kind) → channel_wakes kind ≡ One → (name : List ℕ) (state : State)
+below-call : (kind : Kind) (name : List ℕ) (state : State)
     (moment : ℕ) (op : Op) (peak : ℕ) → IsBelow state.objects kind name moment peak
     → IsBelow (objects_after state.objects moment op) kind name moment
     (peak_by_call kind name state moment op peak)
-below-call kind one name state moment op peak below =
+below-call kind name state moment op peak below =
     by (tells kind name (post_of state.objects moment op))
   where
     by : (told : Bool)
         → IsBelow (objects_after state.objects moment op) kind name moment
         (if told then live_until (objects_after state.objects moment op) kind name moment
         else quiet_peak kind name state moment op peak)
-    by true = below-left kind one name (objects_after state.objects moment op) moment
-    by false = below-quiet kind one name state moment op peak below
+    by true = below-left kind name (objects_after state.objects moment op) moment
+    by false = below-quiet kind name state moment op peak below
 
-below-step : (kind : Kind) → channel_wakes kind ≡ One → (name : List ℕ) (state : State)
+below-step : (kind : Kind) (name : List ℕ) (state : State)
     (entry : Entry) (act : Act) (peak : ℕ) → entry.act ≡ act → state.moment ≤ entry.moment
     → IsBelow state.objects kind name state.moment peak
     → IsBelow (step state entry).objects kind name entry.moment
     (peak_by_act kind name state entry.moment entry.act peak)
-below-step kind one name state entry act peak is le below =
+below-step kind name state entry act peak is le below =
     subst
     (λ a. IsBelow (objects_by state entry.moment a) kind name entry.moment
     (peak_by_act kind name state entry.moment a peak))
@@ -402,21 +172,21 @@ below-step kind one name state entry act peak is le below =
     by : (a : Act)
         → IsBelow (objects_by state entry.moment a) kind name entry.moment
         (peak_by_act kind name state entry.moment a peak)
-    by (calling op) = below-call kind one name state entry.moment op peak sooner
+    by (calling op) = below-call kind name state entry.moment op peak sooner
     by _ = sooner
 
 -- Histories.
 
-below-after : (kind : Kind) → channel_wakes kind ≡ One → (name : List ℕ) (entries : List Entry)
+below-after : (kind : Kind) (name : List ℕ) (entries : List Entry)
     (state : State) (peak : ℕ) → IsLegal state entries
     → IsBelow state.objects kind name state.moment peak
     → IsBelow (after state entries).objects kind name (after state entries).moment
     (peak_after kind name state entries peak)
-below-after kind one name [] state peak legal below = below
-below-after kind one name (entry ∷ entries) state peak legal below =
-    below-after kind one name entries (step state entry)
+below-after kind name [] state peak legal below = below
+below-after kind name (entry ∷ entries) state peak legal below =
+    below-after kind name entries (step state entry)
     (peak_by_act kind name state entry.moment entry.act peak) legal.1
-    (below-step kind one name state entry entry.act peak refl legal.0.in_time below)
+    (below-step kind name state entry entry.act peak refl legal.0.in_time below)
 
 below-first : (kind : Kind) (name : List ℕ) → IsBelow first_state.objects kind name 0 0
 below-first kinds.Mutex name later from = omega arith
@@ -425,8 +195,8 @@ below-first kinds.Rw name later from = omega arith
 below-first _ name later from = omega arith
 
 pub below-history : (entries : List Entry) (kind : Kind) (name : List ℕ)
-    → IsLegal first_state entries → channel_wakes kind ≡ One
+    → IsLegal first_state entries
     → IsBelow (after first_state entries).objects kind name (after first_state entries).moment
     (peak_after kind name first_state entries 0)
-below-history entries kind name legal one =
-    below-after kind one name entries first_state 0 legal (below-first kind name)
+below-history entries kind name legal =
+    below-after kind name entries first_state 0 legal (below-first kind name)

@@ -13,7 +13,7 @@ use Rattle.lr_machine.specs.Within.{IsClient}
 use Rattle.lr_machine.specs.World.{World, first_state, state_of, connection_of, with_entry, closes_of_all, with_cut}
 use Rattle.lr_machine_laws.proofs.Closes.{closed_board, kept_open}
 use Rattle.lr_machine_laws.proofs.Worlds.{after-append}
-use Rattle.lr_machine_wakeups.specs.Kept.{peak_for, peak_of}
+use Rattle.lr_machine_wakeups.specs.WorldFacts.{peak_for, peak_of}
 
 peak_after-append : (kind : Kind) (name : List ℕ) (xs ys : List Entry) (state : State) (peak : ℕ)
     → peak_after kind name state (xs ++ ys) peak

@@ -1,3 +1,5 @@
+mod HoldDeadlines
+mod ReadWriteDeadlines
 mod Deadlines
 mod Asked
 mod Posts

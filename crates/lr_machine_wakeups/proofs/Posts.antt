@@ -1,4 +1,4 @@
--- No message names an owner: of no object an owner has a channel alone.
+-- No message names an owner: all who wait for an object share its channel.
 use Rattle.std.proofs.Common.{◌≡◌, ℕ, ◌+◌, ◌-◌, ◌==◌, nat_lt, nat_le, List, [], ◌∷◌, length, Bool, true, false, Option, Some, None, if◌then◌else◌, refl}
 use Rattle.lr_limits.specs.Limits.{hold_limit, token_limit, member_limit, amount_limit}
 use Rattle.lr_names.specs.Owner.{ThreadOfClient, same_owner}

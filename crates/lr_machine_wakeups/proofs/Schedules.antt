@@ -7,7 +7,7 @@ use Rattle.lr_machine.specs.Within.{IsWithin}
 use Rattle.lr_machine.specs.World.{World, state_of, connection_of, first_world, next, world_after}
 use Rattle.lr_wakeups.proofs.Stands.{no_lost_wakeup}
 use Rattle.lr_machine_laws.proofs.Worlds.{IsInOrder-first_world, IsInOrder-next}
-use Rattle.lr_machine_wakeups.specs.Kept.{peak_of, HaveFacts}
+use Rattle.lr_machine_wakeups.specs.WorldFacts.{peak_of, HaveFacts}
 use Rattle.lr_machine_wakeups.specs.Throughout.{NoWakeupIsLost, ThroughoutEverySchedule}
 use Rattle.lr_machine_wakeups.proofs.Worlds.{kept-first, kept-next}
 

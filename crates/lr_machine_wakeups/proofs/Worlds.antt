@@ -34,7 +34,7 @@ use Rattle.lr_machine.specs.Within.{IsClient, IsWithin}
 use Rattle.lr_machine.specs.World.{World, first_state, first_world, state_of, connection_of, force_of, next_row, next_step, with_entry, cut_among, with_cut, clients_dropped, dropped_at, with_call, answered_in, next_exec, next_order, next_item, next}
 use Rattle.lr_machine_laws.proofs.Connections.{overrun-heard, AreConnected-after_post}
 use Rattle.lr_machine_laws.proofs.Worlds.{IsInOrder-answered}
-use Rattle.lr_machine_wakeups.specs.Kept.{peak_for, peak_of, AreAsked, HaveFacts}
+use Rattle.lr_machine_wakeups.specs.WorldFacts.{peak_for, peak_of, AreAsked, HaveFacts}
 use Rattle.lr_machine_wakeups.proofs.Answers.{answered-in_time}
 use Rattle.lr_machine_wakeups.proofs.Asked.{AskedAfter, ClientAsked, asked-later, asked-client_row, asked-begin, asked-ask, asked-take, asked-check, asked-wake, asked-fire, asked-quit, asked-pushed}
 use Rattle.lr_machine_wakeups.proofs.Deadlines.{quiet_peak, quiet-more}

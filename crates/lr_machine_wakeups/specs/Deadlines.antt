@@ -1,8 +1,6 @@
 -- What the peak of a lock promises of its holders.
-use Rattle.std.specs.Prelude.{◌≡◌, ℕ, ◌≤◌, List}
-use Rattle.lr_names.specs.Channel.{channel_wakes}
+use Rattle.std.specs.Prelude.{ℕ, ◌≤◌, List}
 use Rattle.lr_names.specs.declared.kind.Kind.{Kind}
-use Rattle.lr_names.specs.declared.kind.Wakes.TheVariants.{One}
 use Rattle.lr_model.specs.declared.entry.Entry.{Entry}
 use Rattle.lr_model.specs.Answer.{Objects}
 use Rattle.lr_model.specs.History.{after, IsLegal}
@@ -14,10 +12,9 @@ abbrev pub IsBelow : Objects → Kind → List ℕ → ℕ → ℕ → Type 0
 IsBelow objects kind name moment peak =
     (later : ℕ) → moment ≤ later → live_until objects kind name later ≤ peak
 
--- after every legal history, of each lock on whose channel a message wakes one
+-- after every legal history, of each object
 abbrev pub LiveDeadlinesStayBelowThePeak : Type 0
 LiveDeadlinesStayBelowThePeak =
     (entries : List Entry) (kind : Kind) (name : List ℕ) → IsLegal first_state entries
-    → channel_wakes kind ≡ One
     → IsBelow (after first_state entries).objects kind name (after first_state entries).moment
     (peak_after kind name first_state entries 0)

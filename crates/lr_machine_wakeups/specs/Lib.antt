@@ -1,3 +1,3 @@
 pub mod Deadlines
-pub mod Kept
+pub mod WorldFacts
 pub mod Throughout

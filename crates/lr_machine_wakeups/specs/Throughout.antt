@@ -13,7 +13,7 @@ use Rattle.lr_wakeups.specs.Standing.{StandsWithin}
 use Rattle.lr_machine.specs.declared.event.Event.{Event}
 use Rattle.lr_machine.specs.Within.{IsClient, IsWithin}
 use Rattle.lr_machine.specs.World.{World, state_of, connection_of, first_world, world_after}
-use Rattle.lr_machine_wakeups.specs.Kept.{peak_of}
+use Rattle.lr_machine_wakeups.specs.WorldFacts.{peak_of}
 
 -- What is told to stand for a thread that sleeps, on a channel where a message wakes one, is never
 -- nothing, and a timer isn't later than the peak.

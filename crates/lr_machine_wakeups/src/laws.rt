@@ -4,11 +4,11 @@ ghost use Rattle.lr_machine.specs.Sound.{IsInOrder};
 ghost use Rattle.lr_machine.specs.Within.{IsWithin};
 ghost use Rattle.lr_machine.specs.World.{World, first_world, next};
 ghost use Rattle.lr_machine_wakeups.specs.Deadlines.{LiveDeadlinesStayBelowThePeak};
-ghost use Rattle.lr_machine_wakeups.specs.Kept.{HaveFacts};
+ghost use Rattle.lr_machine_wakeups.specs.WorldFacts.{HaveFacts};
 ghost use Rattle.lr_machine_wakeups.specs.Throughout.{NoWakeupIsLost, ThroughoutEverySchedule};
 
-/// After every legal history, from a server that has just started, no live hold of a lock on whose
-/// channel a message wakes one lasts beyond the lock's peak.
+/// After every legal history, from a server that has just started, no live hold of a lock lasts
+/// beyond the lock's peak.
 pub fn live_deadlines_stay_below_the_peak()
     ensures { LiveDeadlinesStayBelowThePeak }
 {}
