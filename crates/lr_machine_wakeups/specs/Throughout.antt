@@ -33,7 +33,7 @@ Throughout Law events =
     (front later : List Event) → events ≡ front ++ later
     → Law (length front) (world_after first_world front)
 
--- what is so throughout every schedule within the limits
+-- what is so throughout every schedule within the limits, of fewer than 2^64 events
 abbrev pub ThroughoutEverySchedule : (ℕ → World → Type 0) → Type 0
 ThroughoutEverySchedule Law =
     (events : List Event) → AllByRecursion IsWithin events → length events < 2 ^ 64

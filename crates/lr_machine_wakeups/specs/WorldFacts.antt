@@ -24,7 +24,7 @@ peak_of world channel =
     peak_for channel.owner
     (peak_after channel.kind channel.name first_state world.entries 0)
 
--- a call that was sent is of its request, and was sent before now
+-- a call that was sent is of its request, and wasn't sent later than now
 pub record IsAsked (moment : ℕ) (want : Want) (asking : Asking) : Type 0 where
   pub owner : ThreadOfClient
   pub lease : ℕ
