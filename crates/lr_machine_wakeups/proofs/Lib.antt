@@ -1,0 +1,9 @@
+mod HoldDeadlines
+mod ReadWriteDeadlines
+mod Deadlines
+mod Asked
+mod Posts
+mod Answers
+mod Entries
+mod Worlds
+mod Schedules

@@ -1,0 +1,54 @@
+-- Throughout every schedule the facts are so, and no wakeup is lost.
+use Rattle.std.proofs.Common.{◌≡◌, ℕ, suc, ◌+◌, ◌<◌, ◌^◌, List, [], ◌∷◌, ◌++◌, length, length-append, ap, subst, arith}
+use Rattle.std.specs.List.{AllByRecursion}
+use Rattle.lr_machine.specs.declared.event.Event.{Event}
+use Rattle.lr_machine.specs.Sound.{IsInOrder}
+use Rattle.lr_machine.specs.Within.{IsWithin}
+use Rattle.lr_machine.specs.World.{World, state_of, connection_of, first_world, next, world_after}
+use Rattle.lr_wakeups.proofs.Stands.{no_lost_wakeup}
+use Rattle.lr_machine_laws.proofs.Worlds.{IsInOrder-first_world, IsInOrder-next}
+use Rattle.lr_machine_wakeups.specs.WorldFacts.{peak_of, HaveFacts}
+use Rattle.lr_machine_wakeups.specs.Throughout.{NoWakeupIsLost, ThroughoutEverySchedule}
+use Rattle.lr_machine_wakeups.proofs.Worlds.{kept-first, kept-next}
+
+kept-after : (events : List Event) (n : ℕ) (world : World) → n + length events < 2 ^ 64
+    → AllByRecursion IsWithin events → IsInOrder world → HaveFacts n world
+    → HaveFacts (n + length events) (world_after world events)
+kept-after [] n world few within order kept =
+    let same : n ≡ n + 0 = omega arith in
+    subst (λ m. HaveFacts m world) same kept
+kept-after (event ∷ events) n world few within order kept =
+    let same : suc n + length events ≡ n + length (event ∷ events) = omega arith in
+    subst (λ m. HaveFacts m (world_after (next world event) events)) same
+    (kept-after events (suc n) (next world event) (omega (arith, few)) within.1
+    (IsInOrder-next world event within.0 order)
+    (kept-next n world event (omega (arith, few)) within.0 order kept))
+
+-- the events of a front are among all of them
+within-front : (front later : List Event) → AllByRecursion IsWithin (front ++ later)
+    → AllByRecursion IsWithin front
+within-front [] later within = tt
+within-front (event ∷ front) later within = (within.0, within-front front later within.1)
+
+pub facts_throughout : ThroughoutEverySchedule HaveFacts
+facts_throughout events within few front later split =
+    let long = ap length split in
+    let parts = length-append front later in
+    let same : 0 + length front ≡ length front = omega arith in
+    subst (λ m. HaveFacts m (world_after first_world front)) same
+    (kept-after front 0 first_world (omega (arith, few, long, parts))
+    (within-front front later (subst (AllByRecursion IsWithin) split within))
+    IsInOrder-first_world kept-first)
+
+-- where the facts are so, no wakeup is lost
+pub none_lost : (n : ℕ) (world : World) → HaveFacts n world → NoWakeupIsLost world
+none_lost n world kept = record {
+  stands = λ c thread waiter stand client inside was one told.
+      no_lost_wakeup n (peak_of world) (world.clients c) (connection_of world c)
+      (kept.facts c client) (state_of world) world.moment thread waiter stand inside was one told;
+}
+
+pub none_lost_throughout : ThroughoutEverySchedule (λ n world. NoWakeupIsLost world)
+none_lost_throughout events within few front later split =
+    none_lost (length front) (world_after first_world front)
+    (facts_throughout events within few front later split)

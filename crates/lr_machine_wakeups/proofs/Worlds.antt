@@ -1,0 +1,511 @@
+-- Each event keeps the facts of all clients.
+use Rattle.std.proofs.Common.{◌≡◌, ℕ, suc, ◌<◌, ◌≤◌, ◌==◌, ◌^◌, nat_le, List, [], ◌∷◌, slice_get, Bool, true, false, not, ◌&&◌, Option, Some, None, if◌then◌else◌, refl, sym, ap, ◌∙◌, subst, arith}
+use Rattle.std.specs.List.{list_any}
+use Rattle.std.specs.Str.{bytes_eq}
+use Rattle.std.proofs.lemmas.Bool.{false≢true, eq-eqb, eqb-true}
+use Rattle.std.proofs.lemmas.Option.{same_Some}
+use Rattle.lr_limits.specs.Limits.{thread_limit, watchdog_lease}
+use Rattle.lr_names.specs.Channel.{ChannelOf}
+use Rattle.lr_names.specs.Owner.{ThreadOfClient}
+use Rattle.lr_names.specs.declared.kind.Kind.{Kind}
+use Rattle.lr_names.specs.declared.post.Post.{Post}
+use Rattle.lr_names.specs.declared.post.Push.{Push}
+use Rattle.lr_names.specs.declared.post.Push.TheVariants.{Message}
+use Rattle.lr_objects.specs.declared.op.Op.{Op}
+use Rattle.lr_model.specs.declared.entry.Act.TheVariants.{Subscribe, Unsubscribe, Drain}
+use Rattle.lr_model.specs.declared.entry.Entry.{Entry}
+use Rattle.lr_model.specs.Answer.{reply_of, objects_after, post_of}
+use Rattle.lr_model.specs.Board.{Board, Connection, same_kind, same_channel, same_queue_owner, has_channel, has_room, is_overrun, new_connection, closed_connection, dropped_connection, with_item, with_connection, connection_after_post, connection_after_subscribe, connection_after_unsubscribe, connection_after_drain, board_after_post}
+use Rattle.lr_model.specs.History.{State, step, call_entry, entry_of}
+use Rattle.lr_waiting.specs.declared.latch.Order.{Order}
+use Rattle.lr_waiting.specs.declared.waiter.Asking.{Asking}
+use Rattle.lr_waiting.specs.Client.{Client, cut_client, client_row, with_reply, asked_of, take_reply}
+use Rattle.lr_waiting.specs.Latch.{first_order_of}
+use Rattle.lr_waiting.specs.Peak.{live_until, tells, peak_by_call, peak_by_act, peak_after}
+use Rattle.lr_waiting.specs.Session.{Session, begin_row, ask_row, check_row, wake_row, fire_row, quit_row, pushed, order_taken}
+use Rattle.lr_wakeups.specs.Facts.{Facts}
+use Rattle.lr_wakeups.proofs.Rows.{facts_later, facts_begin, facts_ask, facts_answered, facts_check, facts_wake, facts_fire, facts_quit, facts_take}
+use Rattle.lr_wakeups.proofs.ServerSteps.{facts_push, facts_order, facts_post, facts_raised, facts_cut, facts_at_start}
+use Rattle.lr_machine.specs.declared.event.Event.{Event}
+use Rattle.lr_machine.specs.declared.event.Event.TheVariants.{Begin, Ask, Exec, Take, Check, Wake, Fire, Quit, Sub, Push as push, Tick, Force, Cut, Show}
+use Rattle.lr_machine.specs.Clients.{client_id, command_connection, subscription_connection, operator, operator_connection, caller_of, client_caller}
+use Rattle.lr_machine.specs.Sound.{IsInOrder, IsHeard, AreConnected}
+use Rattle.lr_machine.specs.Within.{IsClient, IsWithin}
+use Rattle.lr_machine.specs.World.{World, first_state, first_world, state_of, connection_of, force_of, next_row, next_step, with_entry, cut_among, with_cut, clients_dropped, dropped_at, with_call, answered_in, next_exec, next_order, next_item, next}
+use Rattle.lr_machine_laws.proofs.Connections.{overrun-heard, AreConnected-after_post}
+use Rattle.lr_machine_laws.proofs.Worlds.{IsInOrder-answered}
+use Rattle.lr_machine_wakeups.specs.WorldFacts.{peak_for, peak_of, AreAsked, HaveFacts}
+use Rattle.lr_machine_wakeups.proofs.Answers.{answered-in_time}
+use Rattle.lr_machine_wakeups.proofs.Asked.{AskedAfter, ClientAsked, asked-later, asked-client_row, asked-begin, asked-ask, asked-take, asked-check, asked-wake, asked-fire, asked-quit, asked-pushed}
+use Rattle.lr_machine_wakeups.proofs.Deadlines.{quiet_peak, quiet-more}
+use Rattle.lr_machine_wakeups.proofs.Entries.{state-entry, peak-entry, peak-cut, connection-cut}
+use Rattle.lr_machine_wakeups.proofs.Posts.{NamesNoOwner, post-names_no_owner}
+
+-- the facts, where peaks and connection are written otherwise
+facts-moved : (n : ℕ) (peak then_ : ChannelOf → ℕ) (client : Client) (connection now : Connection)
+    → ((channel : ChannelOf) → then_ channel ≡ peak channel) → now ≡ connection
+    → Facts n peak client connection → Facts n then_ client now
+facts-moved n peak then_ client connection now same is facts =
+    subst (λ p. Facts n p client now) (λ i channel. sym (same channel) i)
+    (subst (Facts n peak client) (sym is) facts)
+
+-- there may be more orders
+kept-later : (n : ℕ) (world : World) → HaveFacts n world → HaveFacts (suc n) world
+kept-later n world kept = record {
+  facts = λ c within.
+      facts_later n (peak_of world) (world.clients c) (connection_of world c)
+      (kept.facts c within);
+  asked = kept.asked;
+}
+
+-- Rows of a client: all others stay.
+
+kept-row : (n : ℕ) (world : World) (c : ℕ) (row : Option Client)
+    → ((after : Client) → row ≡ Some after
+    → Facts (suc n) (peak_of world) after (connection_of world c))
+    → ClientAsked world.moment row → HaveFacts n world → HaveFacts (suc n) (next_row world c row)
+kept-row n world c None facts asked kept = kept-later n world kept
+kept-row n world c (Some client) facts asked kept = record {
+  facts = λ d within. by d within (c == d) refl;
+  asked = λ d. asked_by d (c == d);
+}
+  where
+    by : (d : ℕ) → IsClient d → (same : Bool) → (c == d) ≡ same
+        → Facts (suc n) (peak_of world) (if same then client else world.clients d)
+        (connection_of world d)
+    by d within true e =
+        subst (λ k. Facts (suc n) (peak_of world) client (connection_of world k))
+        (eqb-true c d e) (facts client refl)
+    by d within false e = (kept-later n world kept).facts d within
+
+    asked_by : (d : ℕ) (same : Bool)
+        → AreAsked world.moment (if same then client else world.clients d).session.waiters
+    asked_by d true = asked
+    asked_by d false = kept.asked d
+
+kept-step : (n : ℕ) (world : World) (c : ℕ) (row : Session → Option Session)
+    → ((after : Client) → client_row row (world.clients c) ≡ Some after
+    → Facts (suc n) (peak_of world) after (connection_of world c))
+    → AskedAfter world.moment (row (world.clients c).session) → HaveFacts n world
+    → HaveFacts (suc n) (next_step world c row)
+kept-step n world c row facts asked kept =
+    kept-row n world c (client_row row (world.clients c)) facts
+    (asked-client_row world.moment row (world.clients c) asked) kept
+
+-- Clients that are cut off.
+
+kept-cut : (n : ℕ) (world : World) (cs : List ℕ)
+    → ((d : ℕ) → IsClient d → list_any (λ other. d == other) cs ≡ false
+    → Facts n (peak_of world) (world.clients d) (connection_of world d))
+    → ((d : ℕ) → AreAsked world.moment (world.clients d).session.waiters)
+    → HaveFacts n (with_cut cs world)
+kept-cut n world cs facts asked = record {
+  facts = λ d within.
+      facts-moved n (peak_of world) (peak_of (with_cut cs world)) (cut_among cs world.clients d)
+      (if list_any (λ other. d == other) cs then closed_connection else connection_of world d)
+      (connection_of (with_cut cs world) d) (peak-cut cs world)
+      (connection-cut cs world d within)
+      (by d within (list_any (λ other. d == other) cs) refl);
+  asked = λ d. asked_by d (list_any (λ other. d == other) cs);
+}
+  where
+    by : (d : ℕ) → IsClient d → (among : Bool) → list_any (λ other. d == other) cs ≡ among
+        → Facts n (peak_of world) (if among then cut_client (world.clients d) else world.clients d)
+        (if among then closed_connection else connection_of world d)
+    by d within true e = facts_cut n (peak_of world) (world.clients d)
+    by d within false e = facts d within e
+
+    asked_by : (d : ℕ) (among : Bool)
+        → AreAsked world.moment
+        (if among then cut_client (world.clients d) else world.clients d).session.waiters
+    asked_by d true thread = tt
+    asked_by d false thread = asked d thread
+
+kept-cut_one : (n : ℕ) (world : World) (c : ℕ) → HaveFacts n world
+    → HaveFacts n (with_cut (c ∷ []) world)
+kept-cut_one n world c kept =
+    kept-cut n world (c ∷ []) (λ d within apart. kept.facts d within) kept.asked
+
+-- Peaks after a call: only that of the message's channel may fall.
+
+raised : (kind : Kind) (name : List ℕ) (state : State) (moment : ℕ) (op : Op) (peak : ℕ)
+    → tells kind name (post_of state.objects moment op) ≡ false
+    → peak ≤ peak_by_call kind name state moment op peak
+raised kind name state moment op peak quiet =
+    subst
+    (λ told. peak
+    ≤ (if told then live_until (objects_after state.objects moment op) kind name moment
+    else quiet_peak kind name state moment op peak))
+    (sym quiet) (quiet-more kind name state moment op peak)
+
+-- the same of a channel, where nobody is told who waits for its object together with others
+raised-for : (channel : ChannelOf) (state : State) (moment : ℕ) (op : Op) (peak : ℕ)
+    → (channel.owner ≡ None
+    → tells channel.kind channel.name (post_of state.objects moment op) ≡ false)
+    → peak_for channel.owner peak
+    ≤ peak_for channel.owner (peak_by_call channel.kind channel.name state moment op peak)
+raised-for channel state moment op peak quiet = by channel.owner refl
+  where
+    by : (owner : Option ThreadOfClient) → channel.owner ≡ owner
+        → peak_for owner peak
+        ≤ peak_for owner (peak_by_call channel.kind channel.name state moment op peak)
+    by None e = raised channel.kind channel.name state moment op peak (quiet e)
+    by (Some owner) e = omega arith
+
+and_true : (b : Bool) → (b && true) ≡ b
+and_true true = refl
+and_true false = refl
+
+-- channels without owners are one where they are of one object
+same-object : (a b : ChannelOf) → a.owner ≡ None → b.owner ≡ None
+    → same_channel a b ≡ (same_kind a.kind b.kind && bytes_eq a.name b.name)
+unfolding same_channel
+same-object a b e f =
+    (λ i. (same_kind a.kind b.kind && bytes_eq a.name b.name) && same_queue_owner (e i) (f i))
+    ∙ and_true (same_kind a.kind b.kind && bytes_eq a.name b.name)
+
+-- Calls.
+
+overrun-drops : (post : Post) (connection : Connection) → is_overrun post connection ≡ true
+    → (connection_after_post post connection).dropped ≡ true
+overrun-drops post connection = by (has_channel post.channel connection) (has_room connection)
+  where
+    by : (has room : Bool) → (has && not room) ≡ true
+        → (if has
+        then (if room then with_item (Message post.channel post.wakes) connection
+        else dropped_connection connection)
+        else connection).dropped
+        ≡ true
+    by true true over = absurd (false≢true over)
+    by true false over = refl
+    by false room over = absurd (false≢true over)
+
+-- who isn't among those that a message drops isn't overrun
+not-overrun : (post : Post) (board : Board) (clients : ℕ → Client) → AreConnected board clients
+    → (d : ℕ) → IsClient d
+    → list_any (λ other. d == other) (clients_dropped board (Some post)) ≡ false
+    → is_overrun post (board (subscription_connection d)) ≡ false
+not-overrun post board clients connected d within apart =
+    by (is_overrun post (board (subscription_connection d))) refl
+  where
+    by : (over : Bool) → is_overrun post (board (subscription_connection d)) ≡ over
+        → over ≡ false
+    by false e = refl
+    by true e =
+        let heard : IsHeard clients (subscription_connection d) =
+        overrun-heard post board clients connected (subscription_connection d) e in
+        let same : d ≡ heard.client = omega (arith, heard.at) in
+        let left : (cut_among (clients_dropped board (Some post)) clients d).session.is_cut ≡ false =
+        ap (λ b. (if b then cut_client (clients d) else clients d).session.is_cut) apart
+        ∙ ap (λ k. (clients k).session.is_cut) same
+        ∙ heard.uncut in
+        absurd
+        (false≢true
+        (sym ((AreConnected-after_post post board clients connected).each d within left).kept
+        ∙ overrun-drops post (board (subscription_connection d)) e))
+
+kept-call : (n : ℕ) (world : World) (caller conn : ℕ) (op : Op) → IsInOrder world
+    → HaveFacts n world → HaveFacts n (with_call caller conn op world)
+kept-call n world caller conn op order kept =
+    kept-cut n (with_entry entry world) (dropped_at state world.moment op) facts kept.asked
+  where
+    state : State
+    state = state_of world
+
+    entry : Entry
+    entry = call_entry world.moment caller conn op
+
+    then_ : ChannelOf → ℕ
+    then_ channel =
+        peak_for channel.owner
+        (peak_by_call channel.kind channel.name (state_of world) world.moment op
+        (peak_after channel.kind channel.name first_state world.entries 0))
+
+    posted : (d : ℕ) → IsClient d → (post : Option Post)
+        → post_of (state_of world).objects world.moment op ≡ post
+        → list_any (λ other. d == other) (clients_dropped (state_of world).board post) ≡ false
+        → Facts n then_ (world.clients d)
+        (board_after_post post (state_of world).board (subscription_connection d))
+    posted d within None e apart =
+        facts_raised n (peak_of world) (world.clients d) (connection_of world d)
+        (kept.facts d within) then_
+        (λ channel.
+        raised-for channel (state_of world) world.moment op
+        (peak_after channel.kind channel.name first_state world.entries 0)
+        (λ alone. ap (tells channel.kind channel.name) e))
+    posted d within (Some post) e apart =
+        facts_post n (peak_of world) (world.clients d) (connection_of world d)
+        (kept.facts d within) post then_
+        (not-overrun post (state_of world).board world.clients order.connected d within apart)
+        (λ channel other.
+        raised-for channel (state_of world) world.moment op
+        (peak_after channel.kind channel.name first_state world.entries 0)
+        (λ alone.
+        ap (tells channel.kind channel.name) e
+        ∙ sym
+        (same-object channel post.channel alone
+        (subst NamesNoOwner e (post-names_no_owner (state_of world).objects world.moment op)))
+        ∙ other))
+
+    facts : (d : ℕ) → IsClient d
+        → list_any (λ other. d == other) (dropped_at (state_of world) world.moment op) ≡ false
+        → Facts n (peak_of (with_entry entry world)) (world.clients d)
+        (connection_of (with_entry entry world) d)
+    facts d within apart =
+        facts-moved n then_ (peak_of (with_entry entry world)) (world.clients d)
+        (board_after_post (post_of (state_of world).objects world.moment op) (state_of world).board
+        (subscription_connection d))
+        (connection_of (with_entry entry world) d) (peak-entry entry world)
+        (ap (λ (s : State). s.board (subscription_connection d)) (state-entry entry world))
+        (posted d within (post_of (state_of world).objects world.moment op) refl apart)
+
+kept-exec : (n : ℕ) (world : World) (c t : ℕ) → IsClient c → t ≤ thread_limit → IsInOrder world
+    → HaveFacts n world → (found : Option Asking) → asked_of (world.clients c) t ≡ found
+    → (cut : Bool) → HaveFacts (suc n) (next_exec world c t (if cut then None else found))
+kept-exec n world c t client thread order kept found e true = kept-later n world kept
+kept-exec n world c t client thread order kept None e false = kept-later n world kept
+kept-exec n world c t client thread order kept (Some asking) e false =
+    kept-call (suc n) (answered_in world c t asking.op) (caller_of c t) (command_connection c)
+    asking.op (IsInOrder-answered world c t asking.op order)
+    (kept-row n world c (Some answered)
+    (λ after same.
+    subst (λ k. Facts (suc n) (peak_of world) k (connection_of world c)) (same_Some answered after same)
+    (facts_later n (peak_of world) answered (connection_of world c)
+    (facts_answered n (peak_of world) (world.clients c) (connection_of world c)
+    (kept.facts c client) t thread asking
+    (reply_of (state_of world).objects world.moment asking.op) e
+    (answered-in_time world (world.clients c) t asking order (kept.asked c t) e))))
+    (kept.asked c) kept)
+  where
+    answered : Client
+    answered =
+        with_reply t (Some (reply_of (state_of world).objects world.moment asking.op))
+        (world.clients c)
+
+-- Orders and items.
+
+-- a client makes a step, and acts on the connection for its messages
+kept-hearing : (n : ℕ) (world : World) (c : ℕ) (client : Client) (now : Connection) (entry : Entry)
+    → IsClient c → Facts n (peak_of world) client now
+    → AreAsked world.moment client.session.waiters
+    → (step (state_of world) entry).board
+    ≡ with_connection (state_of world).board (subscription_connection c) now
+    → ((channel : ChannelOf) (peak : ℕ)
+    → peak_by_act channel.kind channel.name (state_of world) entry.moment entry.act peak ≡ peak)
+    → HaveFacts n world → HaveFacts n (with_entry entry (next_row world c (Some client)))
+kept-hearing n world c client now entry is_client facts asked board quiet kept = record {
+  facts = λ d within.
+      facts-moved n (peak_of world)
+      (peak_of (with_entry entry (next_row world c (Some client))))
+      (if c == d then client else world.clients d)
+      (with_connection (state_of world).board (subscription_connection c) now
+      (subscription_connection d))
+      (connection_of (with_entry entry (next_row world c (Some client))) d)
+      (λ channel.
+      peak-entry entry (next_row world c (Some client)) channel
+      ∙ ap (peak_for channel.owner)
+      (quiet channel (peak_after channel.kind channel.name first_state world.entries 0)))
+      (ap (λ (s : State). s.board (subscription_connection d))
+      (state-entry entry (next_row world c (Some client)))
+      ∙ ap (λ (b : Board). b (subscription_connection d)) board)
+      (by d within (c == d) (subscription_connection c == subscription_connection d) refl refl);
+  asked = λ d. asked_by d (c == d);
+}
+  where
+    by : (d : ℕ) → IsClient d → (same hears : Bool) → (c == d) ≡ same
+        → (subscription_connection c == subscription_connection d) ≡ hears
+        → Facts n (peak_of world) (if same then client else world.clients d)
+        (if hears then now else connection_of world d)
+    by d within true true e f = facts
+    by d within false false e f = kept.facts d within
+    by d within true false e f =
+        absurd
+        (false≢true
+        (sym f
+        ∙ eq-eqb (subscription_connection c) (subscription_connection d)
+        (ap subscription_connection (eqb-true c d e))))
+    by d within false true e f =
+        let equal : subscription_connection c ≡ subscription_connection d =
+        eqb-true (subscription_connection c) (subscription_connection d) f in
+        absurd (false≢true (sym e ∙ eq-eqb c d (omega (arith, equal))))
+
+    asked_by : (d : ℕ) (same : Bool)
+        → AreAsked world.moment (if same then client else world.clients d).session.waiters
+    asked_by d true = asked
+    asked_by d false = kept.asked d
+
+kept-order : (n : ℕ) (world : World) (c : ℕ) (order : Order) → IsClient c
+    → first_order_of (world.clients c).session.latches ≡ Some order → HaveFacts n world
+    → (subscribe room : Bool) → order.subscribe ≡ subscribe
+    → HaveFacts n
+    (if room
+    then with_entry
+    (entry_of world.moment (client_caller c) (subscription_connection c)
+    (if subscribe then Subscribe order.channel else Unsubscribe order.channel))
+    (next_step world c (λ session. Some (order_taken session)))
+    else with_cut (c ∷ []) world)
+kept-order n world c order client first kept subscribe room e =
+    by subscribe room
+    (subst
+    (λ b. Facts n (peak_of world) taken
+    (if b then connection_after_subscribe order.channel (connection_of world c)
+    else connection_after_unsubscribe order.channel (connection_of world c)))
+    e
+    (facts_order n (peak_of world) (world.clients c) (connection_of world c) (kept.facts c client)
+    order first))
+  where
+    taken : Client
+    taken = record {
+      session = order_taken (world.clients c).session;
+      replies = (world.clients c).replies;
+    }
+
+    by : (subscribe room : Bool)
+        → Facts n (peak_of world) taken
+        (if subscribe then connection_after_subscribe order.channel (connection_of world c)
+        else connection_after_unsubscribe order.channel (connection_of world c))
+        → HaveFacts n
+        (if room
+        then with_entry
+        (entry_of world.moment (client_caller c) (subscription_connection c)
+        (if subscribe then Subscribe order.channel else Unsubscribe order.channel))
+        (next_step world c (λ session. Some (order_taken session)))
+        else with_cut (c ∷ []) world)
+    by subscribe false facts = kept-cut_one n world c kept
+    by true true facts =
+        kept-hearing n world c taken
+        (connection_after_subscribe order.channel (connection_of world c))
+        (entry_of world.moment (client_caller c) (subscription_connection c)
+        (Subscribe order.channel))
+        client facts (kept.asked c) refl (λ channel peak. refl) kept
+    by false true facts =
+        kept-hearing n world c taken
+        (connection_after_unsubscribe order.channel (connection_of world c))
+        (entry_of world.moment (client_caller c) (subscription_connection c)
+        (Unsubscribe order.channel))
+        client facts (kept.asked c) refl (λ channel peak. refl) kept
+
+kept-next_order : (n : ℕ) (world : World) (c : ℕ) → IsClient c → HaveFacts n world
+    → (found : Option Order) → first_order_of (world.clients c).session.latches ≡ found
+    → (cut : Bool) → HaveFacts n (next_order world c (if cut then None else found))
+kept-next_order n world c client kept found e true = kept
+kept-next_order n world c client kept None e false = kept
+kept-next_order n world c client kept (Some order) e false =
+    kept-order n world c order client e kept order.subscribe (has_room (connection_of world c)) refl
+
+kept-next_item : (n : ℕ) (world : World) (c : ℕ) → n < 2 ^ 64 → IsClient c → HaveFacts n world
+    → (found : Option Push) → slice_get (connection_of world c).outbox 0 ≡ found
+    → (cut : Bool) → HaveFacts n (next_item world c (if cut then None else found))
+kept-next_item n world c few client kept found e true = kept
+kept-next_item n world c few client kept None e false = kept
+kept-next_item n world c few client kept (Some item) e false =
+    kept-hearing n world c
+    (record {
+      session = pushed item (world.clients c).session;
+      replies = (world.clients c).replies;
+    })
+    (connection_after_drain 1 (connection_of world c))
+    (entry_of world.moment (client_caller c) (subscription_connection c) (Drain 1)) client
+    (facts_push n (peak_of world) (world.clients c) (connection_of world c) (kept.facts c client)
+    item few e)
+    (asked-pushed world.moment item (world.clients c).session (kept.asked c)) refl
+    (λ channel peak. refl) kept
+
+kept-next_cut : (n : ℕ) (world : World) (c : ℕ) → HaveFacts n world → (cut : Bool)
+    → HaveFacts n (if cut then world else with_cut (c ∷ []) world)
+kept-next_cut n world c kept true = kept
+kept-next_cut n world c kept false = kept-cut_one n world c kept
+
+-- At the start.
+
+pub kept-first : HaveFacts 0 first_world
+kept-first = record {
+  facts = λ c within.
+      facts_at_start 0 (peak_of first_world) (client_id c) watchdog_lease
+      (first_state.board (subscription_connection c))
+      (no_channels (nat_le (subscription_connection c) 128))
+      (no_items (nat_le (subscription_connection c) 128));
+  asked = λ c thread. tt;
+}
+  where
+    no_channels : (opens : Bool)
+        → (if opens then new_connection 0 else closed_connection).channels ≡ []
+    no_channels true = refl
+    no_channels false = refl
+
+    no_items : (opens : Bool)
+        → (if opens then new_connection 0 else closed_connection).outbox ≡ []
+    no_items true = refl
+    no_items false = refl
+
+-- Events.
+
+pub kept-next : (n : ℕ) (world : World) (event : Event) → suc n < 2 ^ 64 → IsWithin event
+    → IsInOrder world → HaveFacts n world → HaveFacts (suc n) (next world event)
+kept-next n world event few within order kept = by event within
+  where
+    later : (c : ℕ) → IsClient c
+        → Facts (suc n) (peak_of world) (world.clients c) (connection_of world c)
+    later = (kept-later n world kept).facts
+
+    by : (e : Event) → IsWithin e → HaveFacts (suc n) (next world e)
+    by (Begin c t mode want) inside =
+        kept-step n world c (begin_row t mode want)
+        (facts_begin (suc n) (peak_of world) (world.clients c) (connection_of world c)
+        (later c inside.0) t inside.1.1 mode want)
+        (asked-begin world.moment (world.clients c).session (kept.asked c) t mode want) kept
+    by (Ask c t) inside =
+        kept-step n world c (ask_row t world.moment)
+        (facts_ask (suc n) (peak_of world) (world.clients c) (connection_of world c)
+        (later c inside.0) t inside.1.1 world.moment)
+        (asked-ask world.moment (world.clients c).session (kept.asked c) t) kept
+    by (Exec c t) inside =
+        kept-exec n world c t inside.0 inside.1.1 order kept (asked_of (world.clients c) t) refl
+        (world.clients c).session.is_cut
+    by (Take c t) inside =
+        kept-row n world c (take_reply t (world.clients c))
+        (λ after.
+        facts_take n (peak_of world) (world.clients c) (connection_of world c)
+        (kept.facts c inside.0) t inside.1.1 after few)
+        (asked-take world.moment t (world.clients c) (kept.asked c)) kept
+    by (Check c t) inside =
+        kept-step n world c (check_row t world.moment)
+        (facts_check (suc n) (peak_of world) (world.clients c) (connection_of world c)
+        (later c inside.0) t inside.1.1 world.moment)
+        (asked-check world.moment (world.clients c).session (kept.asked c) t world.moment) kept
+    by (Wake c t) inside =
+        kept-step n world c (wake_row t)
+        (facts_wake (suc n) (peak_of world) (world.clients c) (connection_of world c)
+        (later c inside.0) t inside.1.1)
+        (asked-wake world.moment (world.clients c).session (kept.asked c) t) kept
+    by (Fire c t) inside =
+        kept-step n world c (fire_row t world.moment)
+        (facts_fire (suc n) (peak_of world) (world.clients c) (connection_of world c)
+        (later c inside.0) t inside.1.1 world.moment)
+        (asked-fire world.moment (world.clients c).session (kept.asked c) t world.moment) kept
+    by (Quit c t) inside =
+        kept-step n world c (quit_row t)
+        (facts_quit (suc n) (peak_of world) (world.clients c) (connection_of world c)
+        (later c inside.0) t inside.1.1)
+        (asked-quit world.moment (world.clients c).session (kept.asked c) t) kept
+    by (Sub c) inside =
+        kept-later n (next world (Sub c))
+        (kept-next_order n world c inside kept
+        (first_order_of (world.clients c).session.latches) refl (world.clients c).session.is_cut)
+    by (push c) inside =
+        kept-later n (next world (push c))
+        (kept-next_item n world c (omega (arith, few)) inside kept
+        (slice_get (connection_of world c).outbox 0) refl (world.clients c).session.is_cut)
+    by (Tick moment) inside = record {
+      facts = later;
+      asked = λ c thread.
+          asked-later world.moment (next world (Tick moment)).moment
+          ((world.clients c).session.waiters thread) (omega arith) (kept.asked c thread);
+    }
+    by (Force name) inside =
+        kept-later n (next world (Force name))
+        (kept-call n world operator operator_connection (force_of name) order kept)
+    by (Cut c) inside =
+        kept-later n (next world (Cut c))
+        (kept-next_cut n world c kept (world.clients c).session.is_cut)
+    by Show inside = kept-later n world kept

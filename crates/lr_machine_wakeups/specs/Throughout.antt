@@ -1,0 +1,40 @@
+-- That no wakeup is lost, after every event of every schedule.
+use Rattle.std.specs.Prelude.{◌≡◌, ℕ, ◌<◌, ◌≤◌, ◌^◌, List, ◌++◌, length, Some}
+use Rattle.std.specs.List.{AllByRecursion}
+use Rattle.lr_limits.specs.Limits.{thread_limit}
+use Rattle.lr_names.specs.Channel.{channel_wakes}
+use Rattle.lr_names.specs.declared.kind.Wakes.TheVariants.{One}
+use Rattle.lr_waiting.specs.declared.stand.Stand.{Stand}
+use Rattle.lr_waiting.specs.declared.waiter.Waiter.{Waiter}
+use Rattle.lr_waiting.specs.Client.{waiter_in}
+use Rattle.lr_waiting.specs.Session.{channel_in}
+use Rattle.lr_waiting.specs.Stand.{stand_of}
+use Rattle.lr_wakeups.specs.Standing.{StandsWithin}
+use Rattle.lr_machine.specs.declared.event.Event.{Event}
+use Rattle.lr_machine.specs.Within.{IsClient, IsWithin}
+use Rattle.lr_machine.specs.World.{World, state_of, connection_of, first_world, world_after}
+use Rattle.lr_machine_wakeups.specs.WorldFacts.{peak_of}
+
+-- What is told to stand for a thread that sleeps, on a channel where a message wakes one, is never
+-- nothing, and a timer isn't later than the peak.
+pub record NoWakeupIsLost (world : World) : Type 0 where
+  pub stands : (c thread : ℕ) (waiter : Waiter) (stand : Stand) → IsClient c
+      → thread ≤ thread_limit → waiter_in (world.clients c) thread ≡ Some waiter
+      → channel_wakes (channel_in (world.clients c).session thread waiter).kind ≡ One
+      → stand_of (state_of world) world.moment (connection_of world c).outbox (world.clients c)
+      thread
+      ≡ Some stand
+      → StandsWithin (peak_of world (channel_in (world.clients c).session thread waiter)) stand
+
+-- what is so after each of these events, and before the first: of the number of events so far, and
+-- of the world after them
+abbrev pub Throughout : (ℕ → World → Type 0) → List Event → Type 0
+Throughout Law events =
+    (front later : List Event) → events ≡ front ++ later
+    → Law (length front) (world_after first_world front)
+
+-- what is so throughout every schedule within the limits, of fewer than 2^64 events
+abbrev pub ThroughoutEverySchedule : (ℕ → World → Type 0) → Type 0
+ThroughoutEverySchedule Law =
+    (events : List Event) → AllByRecursion IsWithin events → length events < 2 ^ 64
+    → Throughout Law events
