@@ -9,7 +9,7 @@ use Rattle.lr_keys.specs.KeySpace.{ChangesOnly, Keys, StaysSame, entry_at, live_
 use Rattle.lr_limits.specs.Limits.{amount_limit}
 use Rattle.lr_objects.specs.declared.countdown.CountdownCall.{CountdownCall}
 use Rattle.lr_objects.specs.declared.reply.Reply.{Reply}
-use Rattle.lr_model.specs.Answer.{Objects, answer}
+use Rattle.lr_model.specs.Answer.{answer}
 use Rattle.lr_model.specs.Countdown.{countdown_call}
 use Rattle.lr_model.specs.Table.{put}
 use Rattle.lr_counter.specs.Numbers.{IsNumberAt, number_entry_of, some_unless_zero}

@@ -1,5 +1,5 @@
 -- What looks at the key of leases see of them, and what the calls of a key space make of them.
-use Rattle.std.proofs.Common.{◌≡◌, ◌≢◌, ◌≤◌, ◌<◌, ℕ, pos, Bool, true, false, not, List, [], ◌∷◌, length, nat_lt, Option, Some, None, is_some, option_map, Result, Ok, Err, OnOk, if◌then◌else◌, refl, sym, ap, ◌∙◌, subst, arith}
+use Rattle.std.proofs.Common.{◌≡◌, ◌≢◌, ◌≤◌, ◌<◌, ℕ, pos, Bool, true, false, not, List, [], ◌∷◌, length, nat_lt, Option, Some, None, is_some, option_map, Result, Ok, Err, OnOk, if◌then◌else◌, refl, sym, ap, ◌∙◌, arith}
 use Rattle.std.specs.Prelude.{slice_get}
 use Rattle.std.specs.Map.{remove_entry}
 use Rattle.std.specs.Result.{result_unwrap_or}
@@ -14,12 +14,11 @@ use Rattle.lr_sorted.proofs.MemberLaws.{eq-same, in_order_from, in_order_to}
 use Rattle.lr_sorted.proofs.SortedLaws.{sorted-in_order}
 use Rattle.lr_keys.specs.declared.fault.KeyFault.{KeyFault}
 use Rattle.lr_keys.specs.declared.fault.KeyFault.TheVariants.{NoMemory}
-use Rattle.lr_keys.specs.declared.value_kind.ValueKind.TheVariants.{Zset}
-use Rattle.lr_keys.specs.KeySpace.{Answers, ChangesEntry, KeyEntry, Keys, IsPrepared, WritesMember, entry_at, entry_with_member, entry_without_member, found_in, is_new_member, is_new_score, score_at, seen, zset_at}
+use Rattle.lr_keys.specs.KeySpace.{Answers, ChangesEntry, KeyEntry, Keys, WritesMember, entry_at, entry_with_member, entry_without_member, found_in, is_new_member, is_new_score, score_at, seen, zset_at}
 use Rattle.lr_model.specs.Moment.{is_live}
 use Rattle.lr_model.specs.Permits.{PermitLease, is_under, lease_under, live_leases, without_lease}
 use Rattle.lr_model.proofs.ReadWriteFacts.{none_some, some_one}
-use Rattle.lr_expirable.specs.Leases.{AreLeases, AreLeasesAt, in_order_of, members_entry, members_of}
+use Rattle.lr_expirable.specs.Leases.{AreLeasesAt, in_order_of, members_entry, members_of}
 use Rattle.lr_expirable.specs.Step.{HasLive, IsFirstGone, live_members}
 use Rattle.lr_expirable.proofs.EntryLaws.{changed-here, if_ok, member-removed, member-written, members_in, succeeds}
 use Rattle.lr_expirable.proofs.LeaseLaws.{deadline_in, in_order-with, in_order-without, leases-filter, leases-with, length-in_order, live-all, live-in_order, score_of-in_order}

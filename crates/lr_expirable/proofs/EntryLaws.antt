@@ -1,7 +1,6 @@
 -- What the calls of a key space make of the key of a sorted set without an expiry.
-use Rattle.std.proofs.Common.{◌≡◌, ◌≢◌, ◌<◌, ℕ, suc, pos, Bool, true, false, List, [], ◌∷◌, length, Option, Some, None, Result, Ok, Err, IfOk, IfSome, if◌then◌else◌, refl, ap, ◌∙◌, subst, arith}
+use Rattle.std.proofs.Common.{◌≡◌, ◌≢◌, ◌<◌, ℕ, suc, pos, List, [], ◌∷◌, length, Option, Some, None, Result, Ok, Err, IfOk, IfSome, if◌then◌else◌, refl, ap, ◌∙◌, subst, arith}
 use Rattle.std.specs.Result.{result_unwrap_or}
-use Rattle.std.specs.Str.{bytes_eq}
 use Rattle.std.proofs.lemmas.Bool.{cond_both}
 use Rattle.lr_lists.specs.Places.{item_at}
 use Rattle.lr_sorted.specs.Members.{Scored, Members as Scores, comes_before, inserted, score_of, with_score, without_member}
@@ -9,7 +8,7 @@ use Rattle.lr_sorted.proofs.MemberLaws.{eq-same, length-without_member}
 use Rattle.lr_keys.specs.declared.fault.KeyFault.{KeyFault}
 use Rattle.lr_keys.specs.declared.fault.KeyFault.TheVariants.{WrongKind, Overflow, TooMany, NoMemory}
 use Rattle.lr_keys.specs.KeySpace.{Answers, ChangesEntry, Content, Fields, Items, Members, Number, KeyEntry, Keys, count_at, entry_at, entry_with_value, entry_with_member, entry_without_member, is_empty, live_entry, score_at, seen, zset_at}
-use Rattle.lr_keys.proofs.TableLaws.{with_key-same, with_key-other}
+use Rattle.lr_keys.proofs.TableLaws.{with_key-same}
 use Rattle.lr_expirable.specs.Leases.{members_entry}
 
 -- ---- looks

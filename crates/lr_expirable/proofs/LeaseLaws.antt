@@ -1,7 +1,7 @@
 -- The leases of expirable permits as the members of a sorted set: what is found, put and removed there.
-use Rattle.std.proofs.Common.{◌≡◌, ◌≤◌, ◌<◌, ℕ, suc, min, Bool, true, false, not, cond, List, [], ◌∷◌, length, filter, find, Option, Some, None, is_some, option_map, if◌then◌else◌, inl, inr, refl, sym, ap, ◌∙◌, subst, arith}
+use Rattle.std.proofs.Common.{◌≡◌, ◌≤◌, ◌<◌, ℕ, suc, min, Bool, true, false, not, cond, List, [], ◌∷◌, length, filter, Option, Some, None, option_map, if◌then◌else◌, inl, inr, refl, sym, ap, ◌∙◌, arith}
 use Rattle.std.specs.Prelude.{slice_get}
-use Rattle.std.specs.List.{AllByRecursion, IsDistinct}
+use Rattle.std.specs.List.{AllByRecursion}
 use Rattle.std.specs.Map.{keys_of}
 use Rattle.std.specs.Str.{bytes_eq}
 use Rattle.std.proofs.lemmas.Bool.{cond_both, cond-true, cond-false}
@@ -12,13 +12,13 @@ use Rattle.lr_limits.specs.Limits.{member_limit, never}
 use Rattle.lr_names.specs.Owner.{IsId, id_text}
 use Rattle.lr_names.proofs.OwnerLaws.{id_text-injective}
 use Rattle.lr_sorted.specs.Members.{Scored, Members as Scores, comes_before, inserted, score_of, with_score, without_member}
-use Rattle.lr_sorted.specs.Sorted.{AreDistinct, sorted}
+use Rattle.lr_sorted.specs.Sorted.{AreDistinct}
 use Rattle.lr_sorted.proofs.OrderLaws.{before-trans}
 use Rattle.lr_sorted.proofs.MemberLaws.{IsBelow, InOrder, eq-is, eq-sym}
 use Rattle.lr_sorted.proofs.SortedLaws.{length-sorted, sorted-in_order, sorted-scores, sorted-without, tail-distinct}
 use Rattle.lr_model.specs.Moment.{is_live}
 use Rattle.lr_model.specs.Permits.{PermitLease, is_under, least_deadline, lease_under, live_leases, without_lease}
-use Rattle.lr_model.proofs.ReadWriteFacts.{All-filter, All-like, either_way, length-filter-le, none_some, some_one}
+use Rattle.lr_model.proofs.ReadWriteFacts.{All-filter, either_way, length-filter-le, none_some, some_one}
 use Rattle.lr_expirable.specs.Leases.{AreLeases, in_order_of, member_of, members_of}
 use Rattle.lr_expirable.specs.Step.{live_members}
 

@@ -1,6 +1,5 @@
 -- The run of a function, from the keys before it to those after it.
 use Rattle.std.proofs.Common.{◌≡◌, ◌≢◌, ◌<◌, ℕ, true, false, List, [], Option, Some, None, Ok, option_map, refl, sym, ap, subst, ◌∙◌, arith}
-use Rattle.std.specs.Str.{bytes_eq}
 use Rattle.std.proofs.lemmas.Bool.{cond-true, cond-false, false≢true, true≢false}
 use Rattle.std.proofs.lemmas.Bool.Decides.{nat_tests}
 use Rattle.lr_names.specs.Owner.{IsId, id_text}
@@ -11,7 +10,7 @@ use Rattle.lr_objects.specs.declared.reply.Reply.{Reply}
 use Rattle.lr_objects.specs.declared.reply.Reply.TheVariants.{BadLease}
 use Rattle.lr_keys.specs.declared.value_kind.ValueKind.TheVariants.{Counter}
 use Rattle.lr_keys.specs.KeySpace.{ChangesOnly, IsPrepared, KeyEntry, Keys, Plan, StaysSame, entry_at, live_entry, live_entries, plan_at, score_at}
-use Rattle.lr_keys.proofs.TableLaws.{bytes_eq-other, bytes_eq-sym}
+use Rattle.lr_keys.proofs.TableLaws.{bytes_eq-other}
 use Rattle.lr_model.specs.Moment.{is_lease, is_live}
 use Rattle.lr_model.specs.Outcome.{silent_outcome}
 use Rattle.lr_model.specs.Permits.{PermitLease, Permits, is_under, lease_under, live_leases, live_permits, permit_call}

@@ -1,18 +1,18 @@
 -- What each step of a function comes to for the permits that the keys have.
-use Rattle.std.proofs.Common.{◌≡◌, ◌≤◌, ◌<◌, ◌-◌, ◌+◌, ℕ, nat_le, nat_lt, Bool, true, false, not, List, [], ◌∷◌, length, Option, Some, None, is_some, option_map, unwrap_or, IsTrue, refl, sym, ap, ◌∙◌, subst, arith}
+use Rattle.std.proofs.Common.{◌≡◌, ◌≤◌, ◌<◌, ◌-◌, ◌+◌, ℕ, nat_le, nat_lt, true, false, not, List, [], ◌∷◌, length, Option, Some, None, is_some, option_map, unwrap_or, IsTrue, refl, sym, ap, ◌∙◌, subst, arith}
 use Rattle.std.specs.List.{AllByRecursion}
 use Rattle.std.proofs.lemmas.Bool.{and_parts, cond-true, cond-false, false≢true, true≢false}
 use Rattle.std.proofs.lemmas.Bool.Decides.{nat_tests}
-use Rattle.lr_limits.specs.Limits.{amount_limit, last_moment, longest_lease, member_limit, never}
+use Rattle.lr_limits.specs.Limits.{last_moment, longest_lease, member_limit, never}
 use Rattle.lr_names.specs.declared.post.Post.{Post}
-use Rattle.lr_keys.specs.KeySpace.{KeyEntry, Keys, entry_at}
+use Rattle.lr_keys.specs.KeySpace.{Keys, entry_at}
 use Rattle.lr_objects.specs.Amount.{IsAmount}
 use Rattle.lr_objects.specs.declared.reply.Reply.{Reply}
 use Rattle.lr_objects.specs.declared.reply.Reply.TheVariants.{Granted, Busy, Short, Freed, Set, AlreadySet, Count, Unknown, TooMany}
 use Rattle.lr_model.specs.Moment.{is_lease}
 use Rattle.lr_model.specs.Outcome.{Outcome, silent_outcome}
-use Rattle.lr_model.specs.Permits.{PermitLease, Permits, available, available_of, permits_post, is_under, least_deadline, lease_under, without_lease, with_new_lease, set_number, take_permit, take_beside, take_of, give_back_lease, set_step, try_step, release_step, count_step}
-use Rattle.lr_model.proofs.ReadWriteFacts.{length-filter-le, none_some, some_one}
+use Rattle.lr_model.specs.Permits.{PermitLease, Permits, available_of, permits_post, is_under, least_deadline, lease_under, without_lease, set_number, take_permit, take_beside, take_of, give_back_lease, set_step, try_step, release_step, count_step}
+use Rattle.lr_model.proofs.ReadWriteFacts.{length-filter-le, some_one}
 use Rattle.lr_counter.specs.Numbers.{number_entry}
 use Rattle.lr_expirable.specs.Leases.{AreLeasesAt}
 use Rattle.lr_expirable.specs.Stands.{ArePermitsAt}

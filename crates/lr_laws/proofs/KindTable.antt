@@ -7,9 +7,7 @@ use Rattle.lr_objects.specs.declared.kinds.Call.TheVariants as calls
 use Rattle.lr_model.specs.declared.entry.Entry.{Entry}
 use Rattle.lr_model.specs.Claim.{Claim}
 use Rattle.lr_model.specs.History.{state_at_start, IsLegal}
-use Rattle.lr_steps.specs.Sound.{IsInOrder, IsSound}
 use Rattle.lr_model.specs.Tenure.{NoConflict, concerns}
-use Rattle.lr_steps.specs.World.{World}
 use Rattle.lr_laws.proofs.Claims.{claim_on, other_kind}
 use Rattle.lr_laws.proofs.ClaimLaws.{ClaimLaw}
 use Rattle.lr_laws.proofs.Conflicts as conflicts
@@ -17,10 +15,6 @@ use Rattle.lr_laws.proofs.UnclaimedKinds.{unclaimed_law}
 use Rattle.lr_laws.proofs.Mutexes.{mutex_law}
 use Rattle.lr_laws.proofs.ReadWriteLocks.{read_write_law}
 use Rattle.lr_laws.proofs.FencedLocks.{fenced_law}
-use Rattle.lr_laws.proofs.Tokens.{tokens_grow}
-use Rattle.lr_laws.proofs.Semaphores.{never_overgranted}
-use Rattle.lr_laws.proofs.Permits.{never_more_than_set}
-use Rattle.lr_laws.proofs.Latches.{counts_down}
 
 -- The law of the claims of each kind. The last line is for those on whose objects no call takes a
 -- claim: a kind whose calls do gets a line above that and one in it.
@@ -42,15 +36,3 @@ law_of kind =
 pub no_conflict : (last : ℕ) (entries : List Entry)
     → IsLegal (state_at_start last) entries → NoConflict (state_at_start last) entries
 no_conflict last entries legal = conflicts.no_conflict law_of last entries legal
-
--- a world whose history is in order is sound
-pub IsSound-from_order : (world : World) → IsInOrder world.entries world.moment → IsSound world
-IsSound-from_order world order = record {
-  legal = order.legal;
-  in_time = order.in_time;
-  exclusive = no_conflict 128 world.entries order.legal;
-  tokens = tokens_grow 128 world.entries order.legal;
-  permits = never_overgranted 128 world.entries;
-  leases = never_more_than_set 128 world.entries order.legal;
-  counts = counts_down 128 world.entries;
-}

@@ -20,6 +20,3 @@ pub mod Latches
 pub mod FencedTokens
 pub mod Tokens
 pub mod KindTable
-pub mod QuietBoards
-pub mod Worlds
-pub mod Schedules

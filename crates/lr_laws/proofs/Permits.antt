@@ -1,8 +1,8 @@
 -- Of expirable permits no more are live at once than were set: the tenures that the replies tell are
 -- the leases, as far as both are live, and there are no more leases than the number.
-use Rattle.std.proofs.Common.{◌≡◌, ◌≤◌, ℕ, ◌+◌, nat_lt, Bool, true, false, not, List, [], ◌∷◌, length, filter, Option, Some, None, unwrap_or, if◌then◌else◌, refl, sym, ap, ◌∙◌, subst, arith}
+use Rattle.std.proofs.Common.{◌≡◌, ◌≤◌, ℕ, ◌+◌, nat_lt, Bool, true, false, not, List, [], ◌∷◌, length, filter, Option, Some, None, unwrap_or, if◌then◌else◌, refl, sym, ap, ◌∙◌, arith}
 use Rattle.std.specs.Str.{bytes_eq}
-use Rattle.std.proofs.lemmas.Bool.{cond_both, true≢false}
+use Rattle.std.proofs.lemmas.Bool.{cond_both}
 use Rattle.std.proofs.lemmas.Bool.Decides.{nat_tests}
 use Rattle.lr_limits.specs.Limits.{member_limit}
 use Rattle.lr_objects.specs.Op.{call_on}
@@ -16,7 +16,7 @@ use Rattle.lr_model.specs.declared.entry.Entry.{Entry}
 use Rattle.lr_model.specs.Answer.{Objects, reply_of, objects_after}
 use Rattle.lr_model.specs.History.{State, IsLegal, after, objects_by, state_at_start, step}
 use Rattle.lr_model.specs.Moment.{is_lease, is_live}
-use Rattle.lr_model.specs.Outcome.{Outcome, silent_outcome}
+use Rattle.lr_model.specs.Outcome.{Outcome}
 use Rattle.lr_model.specs.PermitCounts.{PermitTenures, no_tenures, with_tenure, without_tenure, tenures_by_call, tenures_by_act, tenures_after, NeverMoreThanSet}
 use Rattle.lr_model.specs.Permits.{PermitLease, Permits, live_leases, live_permits, is_under, lease_under, without_lease, with_new_lease, set_number, take_permit, take_beside, take_of, give_back_lease, permit_try}
 use Rattle.lr_model.specs.Table.{put}

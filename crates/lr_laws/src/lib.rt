@@ -1,5 +1,5 @@
-//! What is true of every legal history and of every schedule. Nothing runs here: a law is a public
-//! function with an empty body, and its clause is what is proved.
+//! What is true of every legal history. Nothing runs here: a law is a public function with an empty
+//! body, and its clause is what is proved.
 #![tactic(auto)]
 
 mod countdown_laws;
@@ -10,8 +10,6 @@ mod semaphore_laws;
 
 pub use countdown_laws::latches_count_down;
 pub use fenced_laws::tokens_strictly_grow;
-pub use laws::{
-    every_schedule_goes_well, every_schedule_goes_well_throughout, tenures_never_conflict,
-};
+pub use laws::tenures_never_conflict;
 pub use permit_laws::no_more_permits_are_live_than_were_set;
 pub use semaphore_laws::semaphores_never_grant_more_than_there_is;

@@ -6,12 +6,12 @@ use Rattle.std.specs.List.{AllByRecursion, list_any}
 use Rattle.lr_names.specs.declared.post.Post.{Post}
 use Rattle.lr_model.specs.declared.entry.Entry.{Entry}
 use Rattle.lr_model.specs.Board.{Board, Connection, closed_connection, is_open, is_overrun, dropped_by, board_after_post, with_connection, numbers_below}
-use Rattle.lr_model.specs.History.{State, step, after, IsLegal, CanCall}
+use Rattle.lr_model.specs.History.{State, after, IsLegal, CanCall}
 use Rattle.lr_waiting.specs.Client.{Client, cut_client}
 use Rattle.lr_machine.specs.Clients.{client_at, command_connection, subscription_connection}
 use Rattle.lr_machine.specs.Sound.{IsConnected, IsHeard, AreConnected}
 use Rattle.lr_machine.specs.Within.{IsClient}
-use Rattle.lr_machine.specs.World.{closes_of, closes_of_all, cut_among, clients_dropped}
+use Rattle.lr_machine.specs.World.{closes_of_all, cut_among, clients_dropped}
 use Rattle.lr_model.proofs.Numbers.{below_all}
 use Rattle.lr_machine_laws.proofs.Connections.{unreached, open-after_post, overrun-heard, or_true}
 

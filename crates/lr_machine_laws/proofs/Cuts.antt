@@ -1,6 +1,5 @@
 -- No step of a client's core cuts it off.
-use Rattle.std.proofs.Common.{◌≡◌, ℕ, Bool, true, false, Option, Some, None, if◌then◌else◌, refl, ap, ◌∙◌}
-use Rattle.lr_names.specs.Channel.{ChannelOf}
+use Rattle.std.proofs.Common.{◌≡◌, ℕ, Bool, true, false, Option, Some, None, if◌then◌else◌, refl, ◌∙◌}
 use Rattle.lr_names.specs.declared.post.Push.{Push}
 use Rattle.lr_names.specs.declared.post.Push.TheVariants.{Subscribed, Unsubscribed, Message}
 use Rattle.lr_objects.specs.declared.reply.Reply.{Reply}
@@ -19,7 +18,7 @@ use Rattle.lr_waiting.specs.declared.waiter.Waiter.{Waiter}
 use Rattle.lr_waiting.specs.declared.watch.WatchKey.{WatchKey}
 use Rattle.lr_waiting.specs.Client.{Client, client_row, with_reply, take_with, take_reply}
 use Rattle.lr_waiting.specs.Latch.{acknowledge_in, is_due, is_subscribed, checked_in, register_in, woken_in}
-use Rattle.lr_waiting.specs.Session.{Session, begin_row, begin_at, ask_row, ask_at, take_row, take_at, check_row, check_at, checked, wake_row, wake_at, woken, fire_row, fire_at, quit_row, quit_at, pushed, acknowledged, order_taken, of_waiter, taken, refused, registered, without_waiter, watched_by, watch_begun, watch_ended, waits_for, due_after, key_in, entry_for, channel_in, with_latches, with_stage, with_ticket, with_waiter, with_joined}
+use Rattle.lr_waiting.specs.Session.{Session, begin_row, begin_at, ask_row, ask_at, take_row, take_at, check_row, check_at, checked, wake_row, wake_at, woken, fire_row, fire_at, quit_row, quit_at, pushed, of_waiter, taken, refused, registered, without_waiter, watched_by, watch_begun, watch_ended, waits_for, due_after, key_in, entry_for, channel_in, with_latches, with_stage, with_ticket, with_waiter, with_joined}
 use Rattle.lr_waiting.specs.Latch.{leave_at, register_at, acknowledge_at}
 
 -- a step, where it applies, leaves a client as cut off as it was

@@ -1,25 +1,19 @@
 -- What an event adds to the history: what it makes the server do, and nothing else.
-use Rattle.std.proofs.Common.{◌≡◌, ◌≢◌, ℕ, zero, suc, ◌+◌, ◌*◌, ◌≤◌, ◌<◌, ◌==◌, List, [], ◌∷◌, ◌++◌, map, length, Bool, true, false, ◌||◌, Option, Some, None, if◌then◌else◌, refl, sym, ap, ◌∙◌, subst, arith, append-nil, append_assoc, length-append, slice_get, ◌⊎◌, inl, inr}
-use Rattle.std.proofs.lemmas.Bool.{eq-eqb, ne_eqb, cases_eq, false≢true}
-use Rattle.std.specs.List.{AllByRecursion, list_any}
-use Rattle.lr_names.specs.declared.post.Post.{Post}
+use Rattle.std.proofs.Common.{◌≡◌, ◌≢◌, ℕ, ◌+◌, ◌*◌, ◌≤◌, ◌<◌, ◌==◌, List, [], ◌∷◌, ◌++◌, Bool, true, false, ◌||◌, Option, Some, None, if◌then◌else◌, refl, sym, ap, ◌∙◌, append-nil, append_assoc, ◌⊎◌}
 use Rattle.lr_names.specs.declared.post.Push.{Push}
 use Rattle.lr_objects.specs.declared.op.Op.{Op}
 use Rattle.lr_model.specs.declared.entry.Entry.{Entry}
 use Rattle.lr_model.specs.declared.entry.Act.TheVariants.{Call, Drain}
 use Rattle.lr_model.specs.Board.{has_room}
 use Rattle.lr_model.specs.History.{Deed, call_entry, entry_of, deeds_of}
-use Rattle.lr_model.specs.Table.{put}
 use Rattle.lr_waiting.specs.declared.latch.Order.{Order}
 use Rattle.lr_waiting.specs.declared.waiter.Asking.{Asking}
-use Rattle.lr_waiting.specs.Client.{Client, cut_client, asked_of}
-use Rattle.lr_waiting.specs.Latch.{first_order_of}
-use Rattle.lr_waiting.specs.Session.{order_taken, pushed}
+use Rattle.lr_waiting.specs.Session.{order_taken}
 use Rattle.lr_machine.specs.declared.event.Event.{Event}
-use Rattle.lr_machine.specs.declared.event.Event.TheVariants.{Begin, Ask, Exec, Take, Check, Wake, Fire, Quit, Sub, Push as push, Tick, Force, Cut, Show}
+use Rattle.lr_machine.specs.declared.event.Event.TheVariants.{Exec, Sub, Push as push, Force, Cut}
 use Rattle.lr_machine.specs.Clients.{command_connection, subscription_connection, operator, operator_connection, caller_of, client_caller}
 use Rattle.lr_machine.specs.Deeds.{deeds_of_cut, deeds_of_call, deeds_of_exec, deeds_of_order, deeds_of_item, deeds_of_event}
-use Rattle.lr_machine.specs.World.{World, state_of, connection_of, force_of, asking_of, order_for, item_for, next_step, with_entry, closes_of_all, cut_among, with_cut, dropped_at, with_call, answered_in, next_exec, act_of, next_order, next_item, next_cut, next}
+use Rattle.lr_machine.specs.World.{World, state_of, connection_of, force_of, asking_of, order_for, item_for, next_step, with_entry, closes_of_all, with_cut, dropped_at, with_call, answered_in, next_exec, act_of, next_order, next_item, next}
 
 pub deeds_of-append : (xs ys : List Entry) → deeds_of (xs ++ ys) ≡ deeds_of xs ++ deeds_of ys
 deeds_of-append [] ys = refl

@@ -1,8 +1,8 @@
 -- How long a history grows: an event makes one entry, and each client that it cuts off two more, and
 -- is cut off once.
-use Rattle.std.proofs.Common.{◌≡◌, ◌≢◌, ℕ, zero, suc, ◌+◌, ◌*◌, ◌≤◌, ◌<◌, ◌==◌, List, [], ◌∷◌, ◌++◌, length, Bool, true, false, ◌||◌, Option, Some, None, if◌then◌else◌, refl, sym, ap, ◌∙◌, arith, length-append, slice_get, ◌⊎◌, inl, inr}
+use Rattle.std.proofs.Common.{◌≡◌, ◌≢◌, ℕ, zero, suc, ◌+◌, ◌*◌, ◌≤◌, ◌<◌, ◌==◌, List, [], ◌∷◌, ◌++◌, length, Bool, true, false, ◌||◌, Option, Some, None, if◌then◌else◌, refl, sym, ap, ◌∙◌, arith, length-append, ◌⊎◌, inl, inr}
 use Rattle.std.proofs.lemmas.Bool.{eq-eqb, ne_eqb, cases_eq}
-use Rattle.std.specs.List.{AllByRecursion, list_any}
+use Rattle.std.specs.List.{list_any}
 use Rattle.lr_limits.specs.Limits.{client_limit}
 use Rattle.lr_names.specs.declared.post.Post.{Post}
 use Rattle.lr_names.specs.declared.post.Push.{Push}
@@ -13,7 +13,7 @@ use Rattle.lr_model.specs.Board.{has_room}
 use Rattle.lr_model.specs.History.{call_entry, entry_of}
 use Rattle.lr_waiting.specs.declared.latch.Order.{Order}
 use Rattle.lr_waiting.specs.declared.waiter.Asking.{Asking}
-use Rattle.lr_waiting.specs.Client.{Client, cut_client, client_row, with_reply, asked_of, take_reply}
+use Rattle.lr_waiting.specs.Client.{Client, cut_client, client_row, with_reply, take_reply}
 use Rattle.lr_waiting.specs.Latch.{first_order_of}
 use Rattle.lr_waiting.specs.Session.{Session, begin_row, ask_row, check_row, wake_row, fire_row, quit_row, pushed, order_taken}
 use Rattle.lr_machine.specs.declared.event.Event.{Event}

@@ -1,20 +1,19 @@
 -- The world after an event: its history is in order, and has what the event made the server do.
-use Rattle.std.proofs.Common.{◌≡◌, ℕ, ◌+◌, ◌*◌, ◌≤◌, ◌==◌, List, [], ◌∷◌, ◌++◌, length, Bool, true, false, IsTrue, Option, Some, None, is_some, ◌≢◌, slice_get, if◌then◌else◌, refl, sym, ap, ◌∙◌, subst, arith, append-nil, append_assoc, length-append, ◌⊎◌, inl, inr}
+use Rattle.std.proofs.Common.{◌≡◌, ℕ, ◌+◌, ◌*◌, ◌≤◌, ◌==◌, List, [], ◌∷◌, ◌++◌, Bool, true, false, IsTrue, Option, Some, None, is_some, ◌≢◌, slice_get, if◌then◌else◌, refl, sym, ap, ◌∙◌, subst, arith, append_assoc, ◌⊎◌, inl, inr}
 use Rattle.std.proofs.lemmas.Bool.{eq-eqb, ne_eqb, cases_eq}
 use Rattle.lr_names.specs.declared.post.Post.{Post}
 use Rattle.lr_names.specs.declared.post.Push.{Push}
 use Rattle.lr_objects.specs.declared.op.Op.{Op}
-use Rattle.lr_objects.specs.declared.reply.Reply.{Reply}
 use Rattle.lr_model.specs.declared.entry.Entry.{Entry}
 use Rattle.lr_model.specs.declared.entry.Act.{Act}
-use Rattle.lr_model.specs.declared.entry.Act.TheVariants.{Call, Subscribe, Unsubscribe, Drain}
+use Rattle.lr_model.specs.declared.entry.Act.TheVariants.{Subscribe, Unsubscribe, Drain}
 use Rattle.lr_model.specs.Answer.{reply_of, post_of}
 use Rattle.lr_model.specs.Board.{Board, Connection, has_room, is_open, board_after_post, with_connection, connection_after_subscribe, connection_after_unsubscribe, connection_after_drain}
-use Rattle.lr_model.specs.History.{State, step, after, CanCall, MayFollow, IsLegal, call_entry, entry_of, board_by, deeds_of}
+use Rattle.lr_model.specs.History.{State, step, after, CanCall, MayFollow, IsLegal, call_entry, entry_of, board_by}
 use Rattle.lr_model.specs.Table.{put}
 use Rattle.lr_waiting.specs.declared.latch.Order.{Order}
 use Rattle.lr_waiting.specs.declared.waiter.Asking.{Asking}
-use Rattle.lr_waiting.specs.Client.{Client, cut_client, client_row, with_reply, asked_of, take_reply}
+use Rattle.lr_waiting.specs.Client.{Client, client_row, with_reply, asked_of, take_reply}
 use Rattle.lr_waiting.specs.Latch.{first_order_of}
 use Rattle.lr_waiting.specs.Session.{Session, begin_row, ask_row, check_row, wake_row, fire_row, quit_row, pushed, order_taken}
 use Rattle.lr_machine.specs.declared.event.Event.{Event}
@@ -22,8 +21,8 @@ use Rattle.lr_machine.specs.declared.event.Event.TheVariants.{Begin, Ask, Exec, 
 use Rattle.lr_machine.specs.Clients.{command_connection, subscription_connection, operator, operator_connection, caller_of, client_caller}
 use Rattle.lr_machine.specs.Sound.{IsInOrder, IsConnected, IsHeard, AreConnected}
 use Rattle.lr_machine.specs.Within.{IsWithin, IsClient}
-use Rattle.lr_machine.specs.World.{World, first_state, first_world, state_of, connection_of, force_of, asking_of, order_for, item_for, clients_after, next_row, next_step, with_entry, closes_of_all, cut_among, with_cut, clients_dropped, dropped_at, with_call, answered_in, next_exec, act_of, next_order, next_item, next_cut, next}
-use Rattle.lr_machine_laws.proofs.Closes.{GoesOn, GoesOn-cut, GoesOn-closes, AreClosable, IsClosable, AreDistinct, AreClosable-dropped, AreDistinct-dropped}
+use Rattle.lr_machine.specs.World.{World, first_state, first_world, state_of, connection_of, force_of, clients_after, next_row, next_step, with_entry, closes_of_all, cut_among, with_cut, clients_dropped, dropped_at, with_call, answered_in, next_exec, next_order, next_item, next}
+use Rattle.lr_machine_laws.proofs.Closes.{GoesOn, GoesOn-cut, GoesOn-closes, AreClosable, AreClosable-dropped, AreDistinct-dropped}
 use Rattle.lr_machine_laws.proofs.Connections.{AreConnected-first, AreConnected-same_cut, AreConnected-after_post}
 use Rattle.lr_machine_laws.proofs.Cuts.{KeepsCut, ClientKeepsCut, keeps-client_row, keeps-begin, keeps-ask, keeps-take, keeps-check, keeps-wake, keeps-fire, keeps-quit, cut-pushed}
 

@@ -5,7 +5,6 @@ use Rattle.std.specs.Str.{bytes_eq}
 use Rattle.lr_objects.specs.declared.kinds.Call.{Call}
 use Rattle.lr_objects.specs.declared.kinds.Call.TheVariants.{Permits}
 use Rattle.lr_objects.specs.declared.permits.PermitCall.TheVariants.{Set as set, Try, Release}
-use Rattle.lr_objects.specs.declared.op.Op.{Op}
 use Rattle.lr_objects.specs.declared.reply.Reply.{Reply}
 use Rattle.lr_objects.specs.declared.reply.Reply.TheVariants.{Granted, Freed, Set}
 use Rattle.lr_model.specs.declared.entry.Act.{Act}

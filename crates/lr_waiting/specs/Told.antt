@@ -23,7 +23,7 @@ use Rattle.lr_waiting.specs.declared.waiter.Stage.{Stage}
 use Rattle.lr_waiting.specs.declared.waiter.Stage.TheVariants.{Fresh, Asked, Ready, Refused, Asleep, Leaving}
 use Rattle.lr_waiting.specs.declared.waiter.Waiter.{Waiter}
 use Rattle.lr_waiting.specs.Latch.{next_count, is_subscribed, register_in, acknowledge_in, checked_in, woken_in}
-use Rattle.lr_waiting.specs.Session.{Session, channel_in, entry_for, waits_for, due_after, leaving_function, joining_threads, joining_ticket, ask_row}
+use Rattle.lr_waiting.specs.Session.{Session, entry_for, waits_for, due_after, leaving_function, joining_threads, joining_ticket, ask_row}
 
 -- Tickets.
 

@@ -1,7 +1,7 @@
 use Rattle.std.proofs.Common.{ℕ, max, ap, ◌∙◌, rules}
 use Rattle.lr_keys.specs.KeySpace.{entry_at, live_entries}
 use Rattle.lr_model.specs.Permits.{live_permits}
-use Rattle.lr_expirable.proofs.RunLemmas.{bad_run, permit_run, ready-still}
+use Rattle.lr_expirable.proofs.RunLemmas.{permit_run, ready-still}
 use Rattle.lr_expirable.proofs.call.answer.Goals as goal
 
 pub returns-clause-run : goal.returns-clause-run

@@ -1,5 +1,4 @@
-use Rattle.std.proofs.Common.{ℕ, max, ap, sym, ◌∙◌, subst}
-use Rattle.lr_keys.specs.KeySpace.{entry_at, score_at}
+use Rattle.std.proofs.Common.{ℕ, max, sym, ◌∙◌, subst}
 use Rattle.lr_model.specs.Permits.{live_permits}
 use Rattle.lr_objects.specs.declared.permits.PermitCall.TheVariants.{Try}
 use Rattle.lr_expirable.specs.Run.{IsReadyFor}
