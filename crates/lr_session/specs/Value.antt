@@ -1,14 +1,15 @@
 -- What contracts see of the core of a client, and the session of the definitions that it is.
-use Rattle.std.specs.Prelude.{ℕ, ◌≡◌, ◌≤◌, ◌==◌, List, Bool, false, Option, Some, None}
+use Rattle.std.specs.Prelude.{ℕ, ◌≡◌, ◌≤◌, ◌==◌, List, Bool, true, false, Option, Some, None}
 use Rattle.std.specs.Map.{lookup}
 use Rattle.lr_limits.specs.Limits.{last_moment}
 use Rattle.lr_names.specs.Owner.{IsThread}
+use Rattle.lr_objects.specs.declared.want.Mode.{Mode}
 use Rattle.lr_waiting.specs.declared.waiter.Asking.{Asking}
 use Rattle.lr_waiting.specs.declared.waiter.Stage.{Stage}
-use Rattle.lr_waiting.specs.declared.waiter.Stage.TheVariants.{Asked}
+use Rattle.lr_waiting.specs.declared.waiter.Stage.TheVariants.{Asked, Refused, Asleep}
 use Rattle.lr_waiting.specs.declared.waiter.Waiter.{Waiter}
 use Rattle.lr_waiting.specs.Begin.{CanBegin}
-use Rattle.lr_waiting.specs.Session.{Session}
+use Rattle.lr_waiting.specs.Session.{Session, may_wait}
 use Rattle.lr_latch.specs.Value.{LatchesValue, latches_of}
 
 -- the client's id, the lease of its watchdog, the requests by their threads, the latches, the last
@@ -44,15 +45,18 @@ pub record IsAsking (asking : Asking) : Type 0 where
   pub early : asking.at ≤ last_moment
   pub unwatched : asking.watched ≡ false
 
-abbrev pub IsStage : Stage → Type 0
-IsStage (Asked asking) = IsAsking asking
-IsStage _ = Unit {0}
+-- what a request in this mode has sent, and that only one that may wait is refused or sleeps
+abbrev pub IsStage : Mode → Stage → Type 0
+IsStage mode (Asked asking) = IsAsking asking
+IsStage mode (Refused refusal) = may_wait mode ≡ true
+IsStage mode (Asleep refusal) = may_wait mode ≡ true
+IsStage mode _ = Unit {0}
 
 -- a request of a thread of the client, which began with what a request may begin with
 pub record IsRequest (thread : ℕ) (waiter : Waiter) : Type 0 where
   pub thread_fits : IsThread thread
   pub begun : CanBegin waiter.mode waiter.want
-  pub sent : IsStage waiter.stage
+  pub stage_fits : IsStage waiter.mode waiter.stage
 
 -- all requests are such
 pub record AreRequests (rows : List (ℕ × Waiter)) : Type 0 where

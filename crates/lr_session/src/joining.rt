@@ -1,10 +1,13 @@
 //! How the threads of a client that wait until it hears a channel are told that it does.
 ghost use Rattle.std.specs.Prelude.{◌≡◌, ◌<◌, ◌≤◌, ◌^◌, ◌==◌, [], map, Some, None, if◌then◌else◌, vec_capacity};
 ghost use Rattle.lr_limits.specs.Limits.{thread_limit};
+ghost use Rattle.lr_names.specs.Owner.{IsThread};
 ghost use Rattle.lr_model.specs.Board.{same_channel};
 ghost use Rattle.lr_model.specs.Table.{put};
+ghost use Rattle.lr_objects.specs.Function.{arguments_of};
+ghost use Rattle.lr_objects.specs.Want.{HasAmount};
 ghost use Rattle.lr_waiting.specs.Latch.{next_count};
-ghost use Rattle.lr_waiting.specs.Session.{is_joining, joins, joining_threads, joining_ticket, with_joined};
+ghost use Rattle.lr_waiting.specs.Session.{channel_for, is_joining, joins, joining_threads, joining_ticket, owner_in, with_joined};
 ghost use Rattle.lr_waiting.specs.Told.{next_ticket};
 ghost use Rattle.lr_session.specs.Stages.{ready_if};
 ghost use Rattle.lr_session.specs.Value.{AreRequests, IsRequest, session_of};
@@ -13,6 +16,7 @@ use crate::stages::is_joining_at;
 use crate::state::SessionState;
 use lr_limits::MOST_THREADS;
 use lr_names::Channel;
+use lr_objects::Want;
 use lr_waiting::{Ask, Waiter};
 
 impl SessionState {
@@ -62,7 +66,17 @@ impl SessionState {
         requires { IsRequest thread waiter.now }
         ensures { result ≡ joins channel.now (session_of self.now) thread (Some waiter.now) }
     {
-        is_joining_at(*waiter) && is_same_channel(channel, &self.channel(thread, &waiter.want))
+        is_joining_at(*waiter) && self.waits_on(channel, thread, &waiter.want)
+    }
+
+    /// Whether a thread that wants this waits on this channel.
+    pub fn waits_on(&self, channel: &Channel, thread: u32, want: &Want) -> bool
+        requires thread { IsThread thread }
+        requires amount { HasAmount (arguments_of want.now.function) want.now }
+        ensures { let owner = owner_in (session_of self.now) thread in
+            result ≡ same_channel channel.now (channel_for owner want.now) }
+    {
+        is_same_channel(channel, &self.channel(thread, want))
     }
 
     /// What the types say of the requests and of the last ticket.

@@ -18,5 +18,6 @@ mod waits;
 pub use asks::Asks;
 pub use fault::SessionFault;
 pub use pushes::Pushed;
+pub use stages::due_after;
 pub use state::SessionState;
 pub use threads::Threads;

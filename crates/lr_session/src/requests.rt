@@ -1,12 +1,12 @@
 //! How a thread begins a request, sends its call and takes the reply.
-ghost use Rattle.std.specs.Prelude.{◌≡◌, ◌≤◌, false, Some, None, if◌then◌else◌, IsSome, IfOk, IfErr, OnOk, OnErr};
+ghost use Rattle.std.specs.Prelude.{◌≡◌, ◌≤◌, true, false, Some, None, if◌then◌else◌, IsSome, IfOk, IfErr, OnOk, OnErr};
 ghost use Rattle.lr_limits.specs.Limits.{last_moment};
 ghost use Rattle.lr_names.specs.Owner.{IsThread};
 ghost use Rattle.lr_waiting.specs.declared.told.Taken.TheVariants as takes;
 ghost use Rattle.lr_waiting.specs.declared.waiter.Stage.TheVariants as stages;
 ghost use Rattle.lr_waiting.specs.Begin.{CanBegin};
 ghost use Rattle.lr_waiting.specs.Latch.{is_subscribed, register_in};
-ghost use Rattle.lr_waiting.specs.Session.{phase_in, begin_row, take_row, asking_for, lease_in, refused, registered, taken, with_ticket, without_waiter, entry_for};
+ghost use Rattle.lr_waiting.specs.Session.{phase_in, begin_row, take_row, asking_for, lease_in, may_wait, refused, registered, taken, with_ticket, without_waiter, entry_for};
 ghost use Rattle.lr_waiting.specs.Told.{next_ticket, ticket_of, ask_by, taken_by, taken_with, refused_with};
 ghost use Rattle.lr_session.specs.Told.{IsFault, IsNotNow, op_noted};
 ghost use Rattle.lr_session.specs.Value.{IsAsking, IsRequest, session_of};
@@ -170,6 +170,7 @@ impl SessionState {
         requires request { IsRequest thread waiter }
         requires begun { (session_of self.old).waiters thread ≡ Some waiter }
         requires asking { IsAsking asking.now }
+        requires waits { may_wait waiter.mode ≡ true }
         ensures ok { OnOk result (session_of self.new
             ≡ refused thread waiter asking.now reply.now (session_of self.old)) }
         ensures told { IfOk result (λ told. told

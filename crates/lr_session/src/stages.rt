@@ -1,5 +1,5 @@
 //! What a step looks at in a request, and what it changes of it.
-ghost use Rattle.std.specs.Prelude.{◌≡◌, ◌≤◌, IfSome, None};
+ghost use Rattle.std.specs.Prelude.{◌≡◌, ◌≤◌, true, IfSome, IsTrue, None};
 ghost use Rattle.lr_limits.specs.Limits.{last_moment};
 ghost use Rattle.lr_waiting.specs.declared.waiter.Stage.TheVariants as stages;
 ghost use Rattle.lr_waiting.specs.Client.{asked_at};
@@ -194,13 +194,14 @@ pub(crate) fn is_watch(lease: Lease) -> bool
 
 /// Whether a reply lets a request wait.
 pub(crate) fn waits_for(reply: &Reply, waiter: &Waiter) -> bool
-    ensures { result ≡ waits_for reply.now waiter.now }
+    ensures value { result ≡ waits_for reply.now waiter.now }
+    ensures waits { IsTrue result → may_wait waiter.now.mode ≡ true }
 {
     may_wait(waiter.mode) && reply.blocks(waiter.want.function)
 }
 
 /// When a thread that was refused asks again by itself: once the object can have come free.
-pub(crate) fn due_after(at: u64, reply: &Reply) -> Due
+pub fn due_after(at: u64, reply: &Reply) -> Due
     requires { at ≤ last_moment }
     ensures { result ≡ due_after at reply.now }
 {

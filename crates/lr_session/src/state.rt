@@ -1,11 +1,11 @@
-ghost use Rattle.std.specs.Prelude.{◌≡◌};
+ghost use Rattle.std.specs.Prelude.{◌≡◌, IfSome};
 ghost use Rattle.lr_names.specs.Owner.{IsThread};
 ghost use Rattle.lr_objects.specs.Function.{arguments_of};
 ghost use Rattle.lr_objects.specs.Want.{HasAmount};
 ghost use Rattle.lr_waiting.specs.Session.{first_session, cut_session, phase_in, owner_in, channel_for, order_taken};
 ghost use Rattle.lr_waiting.specs.Latch.{first_order_of};
 ghost use Rattle.lr_session.specs.declared.fault.SessionFault.TheVariants.{NotNow};
-ghost use Rattle.lr_session.specs.Value.{session_of};
+ghost use Rattle.lr_session.specs.Value.{IsRequest, session_of};
 
 use crate::asks::SpareAsks;
 use crate::fault::SessionFault;
@@ -98,7 +98,8 @@ impl SessionState {
 
     /// The request of a thread: `None` where it has none.
     pub fn waiter(&self, thread: u32) -> Option<Waiter>
-        ensures { result ≡ (session_of self.now).waiters thread }
+        ensures value { result ≡ (session_of self.now).waiters thread }
+        ensures request { IfSome result (IsRequest thread) }
     {
         self.waiters.get(thread)
     }
@@ -161,7 +162,7 @@ impl SessionState {
     }
 
     /// A thread of the client as an owner.
-    pub(crate) fn owner(&self, thread: u32) -> Owner
+    pub fn owner(&self, thread: u32) -> Owner
         requires { IsThread thread }
         ensures { result ≡ owner_in (session_of self.now) thread }
     {
@@ -169,7 +170,7 @@ impl SessionState {
     }
 
     /// The channel on which a thread waits that wants this.
-    pub(crate) fn channel(&self, thread: u32, want: &Want) -> Channel
+    pub fn channel(&self, thread: u32, want: &Want) -> Channel
         requires thread { IsThread thread }
         requires amount { HasAmount (arguments_of want.now.function) want.now }
         ensures { result ≡ channel_for (owner_in (session_of self.now) thread) want.now }

@@ -1,7 +1,7 @@
 //! How a thread waits: it looks before it sleeps, is woken, asks again by its timer, or gives up.
-ghost use Rattle.std.specs.Prelude.{◌≡◌, Some, None, IfOk, IfErr, IfSome, IfNone, OnOk, OnErr, OnSome};
+ghost use Rattle.std.specs.Prelude.{◌≡◌, true, Some, None, IfOk, IfErr, IfSome, IfNone, OnOk, OnErr, OnSome};
 ghost use Rattle.lr_waiting.specs.Latch.{checked_in, woken_in};
-ghost use Rattle.lr_waiting.specs.Session.{phase_in, check_row, checked, wake_row, woken, fire_row, quit_row, entry_for};
+ghost use Rattle.lr_waiting.specs.Session.{phase_in, check_row, checked, wake_row, woken, fire_row, quit_row, entry_for, may_wait};
 ghost use Rattle.lr_waiting.specs.Told.{next_ticket, look_by, look_with, wakeup_by, wakeup_with, end_by};
 ghost use Rattle.lr_session.specs.Told.{IsNotNow};
 ghost use Rattle.lr_session.specs.Value.{IsRequest, session_of};
@@ -37,6 +37,7 @@ impl SessionState {
     fn look(&mut self, thread: u32, waiter: Waiter, refusal: Refusal, moment: u64) -> CheckedStep
         requires request { IsRequest thread waiter }
         requires begun { (session_of self.old).waiters thread ≡ Some waiter }
+        requires waits { may_wait waiter.mode ≡ true }
         ensures session { let session = session_of self.old in session_of self.new
             ≡ checked thread waiter refusal session
             (checked_in (entry_for session thread waiter) refusal.seen refusal.due moment) }

@@ -1,0 +1,4 @@
+pub mod Client
+pub mod Rows
+pub mod Items
+pub mod Stands
