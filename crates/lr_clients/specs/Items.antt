@@ -1,5 +1,5 @@
 -- What is shown of an item that a client takes.
-use Rattle.std.specs.Prelude.{ℕ, ◌<◌, ◌^◌, length}
+use Rattle.std.specs.Prelude.{◌<◌, ◌^◌, length}
 use Rattle.lr_machine.specs.declared.shown.Shown.{Shown}
 use Rattle.lr_machine.specs.declared.shown.Shown.TheVariants as shows
 use Rattle.lr_session.specs.declared.pushes.Pushed.{Pushed}

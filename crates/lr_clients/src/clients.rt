@@ -56,12 +56,7 @@ impl ClientTable {
 
     /// Makes a step of a thread: what is shown and the clients afterwards are those of the step
     /// table. It looks at the thread's own client alone. An error changes nothing.
-    pub fn step(
-        &mut self,
-        client: u32,
-        moment: u64,
-        event: &Event,
-    ) -> Result<Shown, AllocError>
+    pub fn step(&mut self, client: u32, moment: u64, event: &Event) -> Result<Shown, AllocError>
         requires alone { client_alone event.now ≡ Some client }
         requires within { IsWithin event.now }
         requires begins { MayBegin event.now }

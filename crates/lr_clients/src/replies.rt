@@ -57,6 +57,8 @@ impl Replies {
     pub(crate) fn clear(&mut self)
         ensures { replies_of self.new ≡ (λ thread. None) }
     {
-        self.places.fill(None);
+        // It has had this room since it was made.
+        self.places.clear();
+        self.places.resize(MOST_THREADS as usize, None).unwrap();
     }
 }

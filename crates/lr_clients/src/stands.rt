@@ -84,11 +84,7 @@ impl ClientState {
             return false;
         };
         self.waits_at(channel, thread, &waiter)
-            && is_awake_at(
-                waiter.stage,
-                self.replies.get(thread),
-                waiter.want.function,
-            )
+            && is_awake_at(waiter.stage, self.replies.get(thread), waiter.want.function)
     }
 
     // When a thread that waits at the latch of a channel asks again by itself.

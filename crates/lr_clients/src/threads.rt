@@ -35,7 +35,10 @@ impl ClientState {
     {
         match *event {
             Event::Begin {
-                thread, mode, want, ..
+                thread,
+                mode,
+                want,
+                ..
             } => self.begin(thread, mode, &want),
             Event::Ask { thread, .. } => Ok(self.ask(thread, moment)),
             Event::Take { thread, .. } => self.take(thread),
