@@ -1,3 +1,4 @@
-pub mod Requests
+pub mod Called
+pub mod Cuts
+pub mod Steps
 pub mod World
-pub mod Reached

@@ -2,8 +2,12 @@
 #![tactic(auto)]
 
 mod call;
-mod requests;
-mod rows;
+mod cuts;
+mod events;
+mod items;
+mod numbers;
+mod orders;
+mod stands;
 #[cfg(test)]
 mod tests;
 mod world;

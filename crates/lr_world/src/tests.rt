@@ -1,10 +1,10 @@
 ghost use Rattle.std.specs.Prelude.{◌≡◌};
-ghost use Rattle.lr_steps.specs.Within.{MayBegin, IsWithin};
+ghost use Rattle.lr_machine.specs.Within.{MayBegin, IsWithin};
 
 use crate::World;
+use lr_machine::{Event, Shown};
 use lr_names::Name;
 use lr_objects::{Function, Lease, LockFunction, Mode, Want};
-use lr_steps::{Event, Shown};
 use std::test::Fail;
 use uuid::Uuid;
 
@@ -47,5 +47,6 @@ fn a_request_begins(rt: HostRuntime) -> Result<(), Fail> {
     let mut world = World::new(rt.alloc())?;
     assert!(rt; is_begun(&mut world, name));
     assert!(rt; world.history().is_empty());
+    assert!(rt; world.stands()?.as_slice().is_empty());
     Ok(())
 }

@@ -1,20 +1,23 @@
-ghost use Rattle.std.specs.Prelude.{◌≡◌, ◌<◌, ◌≤◌, ◌+◌, [], ◌∷◌, ◌++◌, length, IfOk, OnOk, OnErr};
+ghost use Rattle.std.specs.Prelude.{◌≡◌, ◌<◌, ◌≤◌, ◌+◌, ◌++◌, length, IfOk, OnOk, OnErr, None};
 ghost use Rattle.lr_limits.specs.Limits.{event_limit, entry_limit, last_moment};
-ghost use Rattle.lr_model.specs.History.{after, call_entry, deeds_of};
-ghost use Rattle.lr_steps.specs.declared.shown.Shown.TheVariants as shows;
-ghost use Rattle.lr_steps.specs.Sound.{IsInOrder, IsSound};
-ghost use Rattle.lr_steps.specs.Within.{IsWithin, MayBegin};
-ghost use Rattle.lr_steps.specs.World.{first_state, first_world, force_of, operator, operator_connection, replied_at, shown, next, deeds_of_event};
-ghost use Rattle.lr_world.specs.World.{AllBegun, world_of, world_with};
+ghost use Rattle.lr_model.specs.History.{deeds_of};
+ghost use Rattle.lr_machine.specs.Deeds.{deeds_of_event};
+ghost use Rattle.lr_machine.specs.Shown.{shown, standings_of};
+ghost use Rattle.lr_machine.specs.Sound.{IsInOrder, IsSound};
+ghost use Rattle.lr_machine.specs.Within.{IsWithin, MayBegin};
+ghost use Rattle.lr_machine.specs.World.{first_world, next};
+ghost use Rattle.lr_machine_wakeups.specs.Throughout.{NoWakeupIsLost};
+ghost use Rattle.lr_clients.specs.Rows.{client_alone};
+ghost use Rattle.lr_world.specs.World.{world_of, world_with};
 
-use crate::call::call;
-use crate::requests::Requests;
-use crate::rows::{ask, begin, exec, take};
+use crate::events::{cut, exec, force};
+use crate::items::push;
+use crate::orders::sub;
+use crate::stands::standings;
+use lr_clients::ClientTable;
 use lr_limits::LAST_MOMENT;
-use lr_names::Name;
-use lr_objects::{Call, LockCall, Op};
+use lr_machine::{Event, Shown, Standings, ThreadId};
 use lr_server::{History, ServerState};
-use lr_steps::{Event, Shown, ThreadId};
 use std::alloc::{AllocError, Global};
 use std::marker::Model;
 
@@ -22,18 +25,14 @@ use std::marker::Model;
 /// operator's.
 const LAST_CONNECTION: u32 = 128;
 
-/// The caller and the connection of an operator.
-const OPERATOR: u64 = 0;
-
-const OPERATOR_CONNECTION: u32 = 0;
-
 /// A server with the connections 0 to 128 open and 64 clients with 256 threads each, as one machine
-/// that takes one event at a time. Client c has the id whose 128-bit number is c, and sends its calls
-/// on connection 2c - 1.
+/// that takes one event at a time. Client c has the id whose 128-bit number is c. It sends its calls
+/// on connection 2c - 1, and gets messages on connection 2c.
 #[derive(Drop)]
 pub struct World {
+    alloc: Global,
     server: ServerState,
-    requests: Requests,
+    clients: ClientTable,
     moment: u64,
     applied: u64,
 }
@@ -46,14 +45,14 @@ impl Model for World {
     ghost view = { λ w. record {
       entries = w.server.entries;
       moment = w.moment;
-      requests = w.requests;
+      clients = w.clients;
       applied = w.applied;
     } };
 
     ghost invariant = { λ w. IsWorld w.server.last (record {
       entries = w.server.entries;
       moment = w.moment;
-      requests = w.requests;
+      clients = w.clients;
       applied = w.applied;
     }) };
 }
@@ -65,15 +64,16 @@ impl World {
         ensures unused { IfOk result (λ w. w.applied ≡ 0) }
     {
         Ok(World {
+            alloc,
             server: ServerState::new(alloc, LAST_CONNECTION)?,
-            requests: Requests::new(alloc),
+            clients: ClientTable::new(alloc)?,
             moment: 0,
             applied: 0,
         })
     }
 
     /// Applies an event: what is shown and the world afterwards are those of the step table. An event
-    /// whose case doesn't apply shows so and changes nothing. An error changes nothing.
+    /// whose case doesn't apply shows so and changes nothing. After an error the world is the same.
     pub fn apply(&mut self, event: &Event) -> Result<Shown, AllocError>
         requires within { IsWithin event.now }
         requires begins { MayBegin event.now }
@@ -81,24 +81,38 @@ impl World {
         ensures shown { IfOk result (λ s. s ≡ shown (world_of self.old) event.now) }
         ensures next { OnOk result (world_of self.new ≡ next (world_of self.old) event.now) }
         ensures count { OnOk result (self.new.applied ≡ self.old.applied + 1) }
-        ensures err { OnErr result (self.new ≡ self.old) }
+        ensures err { OnErr result (world_of self.new ≡ world_of self.old) }
+        ensures err_count { OnErr result (self.new.applied ≡ self.old.applied) }
 
         // The history stays legal, and no two claims that conflict are held at once.
         ensures sound { IsSound (world_of self.new) }
         // It has what the event made the server do, for whom and where, and nothing else.
         ensures once { OnOk result (deeds_of self.new.entries
             ≡ deeds_of self.old.entries ++ deeds_of_event (world_of self.old) event.now) }
-        // Each event makes one entry at most, so that no event finds a full history.
+        // Whatever is told to stand for a sleeping thread whose channel wakes one is never nothing,
+        // and no timer that is later than the peak of its lock.
+        ensures awake { NoWakeupIsLost (world_of self.new) }
+        // Each event makes one entry at most, and two for each client that is cut off, so that no
+        // event finds a full history.
         ensures few { length self.new.entries ≤ self.new.applied + 128 }
     {
         let shown = run(
+            self.alloc,
             &mut self.server,
-            &mut self.requests,
+            &mut self.clients,
             &mut self.moment,
             event,
         )?;
         self.applied += 1;
         Ok(shown)
+    }
+
+    /// What stands for each thread that sleeps, in order of clients, and then of threads. It looks
+    /// at all threads of all clients.
+    pub fn stands(&self) -> Result<Standings, AllocError>
+        ensures { IfOk result (λ s. s ≡ standings_of (world_of self.now)) }
+    {
+        standings(self.alloc, &self.server, &self.clients)
     }
 
     /// What the server has done, in order.
@@ -111,67 +125,91 @@ impl World {
 
 // What an event does to the parts of a world.
 fn run(
+    alloc: Global,
     server: &mut ServerState,
-    requests: &mut Requests,
+    clients: &mut ClientTable,
     moment: &mut u64,
     event: &Event,
 ) -> Result<Shown, AllocError>
     requires within { IsWithin event.now }
-    requires first { server.old.last ≡ 128 }
-    requires in_order { IsInOrder server.old.entries moment.old }
     requires begins { MayBegin event.now }
-    requires begun { AllBegun (world_with server.old.entries moment.old requests.old) }
+    requires first { server.old.last ≡ 128 }
+    requires in_order { IsInOrder (world_with server.old.entries moment.old clients.old) }
     requires room { length server.old.entries < entry_limit }
     requires early { moment.old ≤ last_moment }
-    ensures shown { let world = world_with server.old.entries moment.old requests.old in
+    ensures shown { let world = world_with server.old.entries moment.old clients.old in
         IfOk result (λ s. s ≡ shown world event.now) }
-    ensures next { let world = world_with server.old.entries moment.old requests.old in
-        OnOk result (world_with server.new.entries moment.new requests.new ≡ next world event.now) }
+    ensures next { let world = world_with server.old.entries moment.old clients.old in
+        OnOk result (world_with server.new.entries moment.new clients.new ≡ next world event.now) }
     ensures last { server.new.last ≡ server.old.last }
     ensures early { moment.new ≤ last_moment }
-    ensures server_err { OnErr result (server.new ≡ server.old) }
-    ensures requests_err { OnErr result (requests.new ≡ requests.old) }
-    ensures moment_err { OnErr result (moment.new ≡ moment.old) }
+    ensures err { let world = world_with server.old.entries moment.old clients.old in
+        OnErr result (world_with server.new.entries moment.new clients.new ≡ world) }
+{
+    if let Some(client) = client_alone(event) {
+        return clients.step(client, *moment, event);
+    }
+    serve(alloc, server, clients, moment, event)
+}
+
+// The client of an event that is a step of one of its threads, which nobody else notices.
+fn client_alone(event: &Event) -> Option<u32>
+    ensures { result ≡ client_alone event.now }
 {
     match *event {
-        Event::Begin {
-            client,
-            thread,
-            mode,
-            want,
-        } => begin(requests, ThreadId { client, thread }, mode, want),
-        Event::Ask { client, thread } => Ok(ask(requests, ThreadId { client, thread }, *moment)),
+        Event::Begin { client, .. }
+        | Event::Ask { client, .. }
+        | Event::Take { client, .. }
+        | Event::Check { client, .. }
+        | Event::Wake { client, .. }
+        | Event::Fire { client, .. }
+        | Event::Quit { client, .. } => Some(client),
+        Event::Exec { .. }
+        | Event::Sub { .. }
+        | Event::Push { .. }
+        | Event::Tick(_)
+        | Event::Force(_)
+        | Event::Cut { .. }
+        | Event::Show => None,
+    }
+}
+
+// What an event does that isn't a step of a thread.
+fn serve(
+    alloc: Global,
+    server: &mut ServerState,
+    clients: &mut ClientTable,
+    moment: &mut u64,
+    event: &Event,
+) -> Result<Shown, AllocError>
+    requires serves { client_alone event.now ≡ None }
+    requires within { IsWithin event.now }
+    requires first { server.old.last ≡ 128 }
+    requires in_order { IsInOrder (world_with server.old.entries moment.old clients.old) }
+    requires room { length server.old.entries < entry_limit }
+    requires early { moment.old ≤ last_moment }
+    ensures shown { let world = world_with server.old.entries moment.old clients.old in
+        IfOk result (λ s. s ≡ shown world event.now) }
+    ensures next { let world = world_with server.old.entries moment.old clients.old in
+        OnOk result (world_with server.new.entries moment.new clients.new ≡ next world event.now) }
+    ensures last { server.new.last ≡ server.old.last }
+    ensures early { moment.new ≤ last_moment }
+    ensures err { let world = world_with server.old.entries moment.old clients.old in
+        OnErr result (world_with server.new.entries moment.new clients.new ≡ world) }
+{
+    match *event {
         Event::Exec { client, thread } => {
-            exec(server, requests, ThreadId { client, thread }, *moment)
+            exec(server, clients, *moment, ThreadId { client, thread })
         }
-        Event::Take { client, thread } => Ok(take(requests, ThreadId { client, thread })),
+        Event::Sub { client } => sub(alloc, server, clients, *moment, client),
+        Event::Push { client } => push(server, clients, *moment, client),
         Event::Tick(reading) => {
             *moment = (*moment).max(reading.min(LAST_MOMENT));
             Ok(Shown::Moment(*moment))
         }
-        Event::Force(name) => force(server, name, *moment),
+        Event::Force(name) => force(server, clients, *moment, name),
+        Event::Cut { client } => Ok(cut(server, clients, *moment, client)),
+        Event::Show => Ok(Shown::Standings(standings(alloc, server, clients)?)),
+        _ => unreachable!(),
     }
-}
-
-// An operator takes a lock away from whoever holds it. An error changes nothing.
-fn force(server: &mut ServerState, name: Name, moment: u64) -> Result<Shown, AllocError>
-    requires first { server.old.last ≡ 128 }
-    requires in_order { IsInOrder server.old.entries moment }
-    requires room { length server.old.entries < entry_limit }
-    requires early { moment ≤ last_moment }
-    ensures shown { IfOk result (λ s. s
-        ≡ shows.Replied
-        (replied_at (after first_state server.old.entries) moment (force_of name))) }
-    ensures entry { OnOk result (server.new.entries
-        ≡ server.old.entries
-        ++ call_entry moment operator operator_connection (force_of name) ∷ []) }
-    ensures last { server.new.last ≡ server.old.last }
-    ensures err { OnErr result (server.new ≡ server.old) }
-{
-    let op = Op {
-        name,
-        call: Call::Lock(LockCall::Force),
-    };
-    let replied = call(server, moment, OPERATOR, OPERATOR_CONNECTION, &op)?;
-    Ok(Shown::Replied(replied))
 }
