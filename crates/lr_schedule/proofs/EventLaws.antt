@@ -1,12 +1,12 @@
 -- The lines of events are one to one: words give an event back.
-use Rattle.std.proofs.Common.{◌≡◌, ℕ, ◌<◌, List, [], ◌∷◌, ◌++◌, length, IsTrue, refl, sym, ap, subst, ◌∙◌, arith, append-nil}
-use Rattle.lr_text.specs.Words.{words_of, joined, are_words}
+use Rattle.std.proofs.Common.{◌≡◌, ℕ, List, [], ◌∷◌, refl, sym, ap, subst, ◌∙◌, append-nil}
+use Rattle.lr_text.specs.Words.{words_of, joined}
 use Rattle.lr_text.proofs.WordLaws.{words_of-joined}
 use Rattle.lr_machine.specs.declared.event.Event.{Event}
 use Rattle.lr_machine.specs.declared.event.Event.TheVariants.{Begin, Ask, Exec, Take, Check, Wake, Fire, Quit, Sub, Push, Tick, Force, Cut, Show}
 use Rattle.lr_machine.specs.declared.schedule_line.ScheduleLine.{ScheduleLine}
 use Rattle.lr_machine.specs.declared.schedule_line.ScheduleLine.TheVariants as lines
-use Rattle.lr_machine.specs.EventText.{event_words, event_text, IsEvent}
+use Rattle.lr_machine.specs.EventText.{event_text, IsEvent}
 use Rattle.lr_machine.specs.Transcript.{IsLine}
 use Rattle.lr_machine.specs.Within.{IsWithin}
 use Rattle.lr_schedule.specs.declared.spelled.Spelled.{Spelled}

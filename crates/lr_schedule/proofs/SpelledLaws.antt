@@ -1,5 +1,5 @@
 -- What a line spells, against its event, and given back by its words.
-use Rattle.std.proofs.Common.{◌≡◌, ◌↔◌, ℕ, List, [], ◌∷◌, ◌++◌, get_or, length, drop, refl, sym, ap, ◌∙◌, arith, decimal, append-nil, length-append}
+use Rattle.std.proofs.Common.{◌≡◌, ◌↔◌, ℕ, List, [], ◌∷◌, ◌++◌, length, drop, refl, sym, ap, ◌∙◌, arith, decimal, append-nil, length-append}
 use Rattle.lr_objects.specs.declared.want.Mode.{Mode}
 use Rattle.lr_objects.specs.declared.want.Want.{Want}
 use Rattle.lr_objects.specs.Want.{mode_word, want_words}
@@ -148,8 +148,4 @@ begins_with words (spelled.Begin who mode want) rest h = record {
   begins = h.can.1;
   spelled = h.can.2;
 }
-begins_with words (spelled.Thread verb who) rest h = let is = h.verb_is in absurd cc
-begins_with words (spelled.Client verb client) rest h = let is = h.verb_is in absurd cc
-begins_with words (spelled.Tick moment) rest h = let is = h.verb_is in absurd cc
-begins_with words (spelled.Force name) rest h = let is = h.verb_is in absurd cc
-begins_with words spelled.Show rest h = let is = h.verb_is in absurd cc
+begins_with words _ rest h = let other = h.verb_is in absurd cc

@@ -30,8 +30,8 @@ pub enum Expected {
 }
 
 impl Expected {
-    /// The place of the word that isn't as expected, where this is the place of the one read last.
-    /// Of a mode that doesn't fit its function one knows only at the next word, the function.
+    /// The place of the word that isn't as expected, where this is that of the last word read. That
+    /// a mode doesn't fit is known only at the word behind it, the function.
     pub fn place(self, read: u64) -> u64 {
         match self {
             Expected::Once(_) => read.saturating_sub(1),

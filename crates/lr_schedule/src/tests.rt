@@ -171,19 +171,19 @@ fn want(name: Name) -> Want {
     }
 }
 
-fn begins(line: &str, mode: Mode, want: Want) -> bool {
+fn begins(line: &str, mode: Mode, want: &Want) -> bool {
     is_event(
         line,
         Event::Begin {
             client: 64,
             thread: 256,
             mode,
-            want,
+            want: *want,
         },
     )
 }
 
-fn requests_are_read(want: Want) -> bool {
+fn requests_are_read(want: &Want) -> bool {
     let longest = Mode::For(86_400_000_000);
     begins("begin 64 256 once lock_try a 30000", Mode::Once, want)
         && begins("begin 64 256 long lock_try a 30000", Mode::Long, want)
@@ -274,7 +274,7 @@ fn ids_are_read(name: Name, id: Uuid) -> bool {
 #[test]
 fn lines_are_read(rt: HostRuntime) -> Result<(), Fail> {
     let name = Name::parse(b"a")?;
-    let threads = requests_are_read(want(name))
+    let threads = requests_are_read(&want(name))
         && calls_are_read(64, 256)
         && waits_are_read(64, 256);
     let others = events_of_clients_are_read(64) && other_events_are_read(name);

@@ -1,7 +1,7 @@
 use Rattle.std.proofs.Common.{refl, sym, ap, subst, ◌∙◌, ◌∷◌, append-nil}
 use Rattle.lr_text.specs.Words.{words_of, joined}
 use Rattle.lr_machine.specs.EventText.{event_text, IsEvent}
-use Rattle.lr_schedule.specs.Spelled.{event_of, verb_word, verb_of, more_words}
+use Rattle.lr_schedule.specs.Spelled.{verb_word, verb_of, more_words}
 use Rattle.lr_schedule.proofs.EventLaws.{spelled_of, words_of-spelled}
 use Rattle.lr_schedule.proofs.SpelledLaws.{event_words-of, can_spell}
 use Rattle.lr_schedule.proofs.read.read_spelled.Goals as goal
