@@ -20,7 +20,8 @@ use Rattle.lr_schedule.proofs.VerbLaws.{verb_with, verb_with-verb_word}
 
 -- what holds of each event of a thread
 record OfThread (verb : ThreadVerb) (client thread : ℕ) : Type 0 where
-  pub text : event_words (thread_event verb client thread) ≡ thread_word verb ∷ decimal client ∷ decimal thread ∷ []
+  pub text : event_words (thread_event verb client thread)
+      ≡ thread_word verb ∷ decimal client ∷ decimal thread ∷ []
   pub event : IsEvent (thread_event verb client thread) ↔ AreNumbers client thread
 
 of_thread : (verb : ThreadVerb) (client thread : ℕ) → OfThread verb client thread

@@ -102,7 +102,8 @@ CanSpell (Force name) = IsName name
 CanSpell Show = Unit {0}
 
 -- these words begin with those behind the verb, and the rest stands behind them
-pub record Completes (verb : Verb) (words : List (List ℕ)) (spelled : Spelled) (rest : List (List ℕ)) : Type 0 where
+pub record Completes (verb : Verb) (words : List (List ℕ)) (spelled : Spelled)
+    (rest : List (List ℕ)) : Type 0 where
   pub verb_is : verb_of spelled ≡ verb
   pub text : words ≡ more_words spelled ++ rest
   pub can : CanSpell spelled

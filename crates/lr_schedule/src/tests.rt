@@ -6,7 +6,9 @@ use lr_machine::{
     Clients, Event, Found, Ordered, Reached, Replied, ScheduleLine, Shown, Standings,
 };
 use lr_names::{Channel, Due, Kind, Name};
-use lr_objects::{Arguments, Function, Integer, Lease, LockFunction, Mode, Remaining, Reply, Want};
+use lr_objects::{
+    Arguments, FencedFunction, Function, Integer, Lease, LockFunction, Mode, Remaining, Reply, Want,
+};
 use lr_text::Text;
 use lr_waiting::{Order, Phase, Stand, Standing};
 use std::alloc::{AllocError, Global};
@@ -185,10 +187,15 @@ fn begins(line: &str, mode: Mode, want: &Want) -> bool {
 
 fn requests_are_read(want: &Want) -> bool {
     let longest = Mode::For(86_400_000_000);
+    let fenced = Want {
+        function: Function::Fenced(FencedFunction::Try),
+        ..*want
+    };
     begins("begin 64 256 once lock_try a 30000", Mode::Once, want)
         && begins("begin 64 256 long lock_try a 30000", Mode::Long, want)
         && begins("begin 64 256 1 lock_try a 30000", Mode::For(1), want)
         && begins("begin 64 256 86400000000 lock_try a 30000", longest, want)
+        && begins("begin 64 256 long fenced_try a 30000", Mode::Long, &fenced)
 }
 
 fn calls_are_read(client: u32, thread: u32) -> bool {
