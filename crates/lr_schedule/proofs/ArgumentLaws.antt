@@ -1,10 +1,15 @@
--- Words give back what a function is given, and the want of it.
-use Rattle.std.proofs.Common.{◌≡◌, ℕ, ◌<◌, ◌^◌, List, [], ◌++◌, get_or, replicate, unwrap_or, decimal, sym, ap, ◌∙◌}
+-- Words give back what a function is given, the want of it, and the mode of a request.
+use Rattle.std.proofs.Common.{◌≡◌, ◌≢◌, ℕ, ◌<◌, ◌^◌, true, false, if◌then◌else◌, List, [], ◌++◌, get_or, replicate, unwrap_or, codes, decimal, refl, sym, ap, ◌∙◌, arith, true≢false}
+use Rattle.std.proofs.lemmas.Bool.{cond_both}
+use Rattle.std.proofs.lemmas.Slice.Eq.{bytes_eq-Decides}
+use Rattle.std.specs.Str.{bytes_eq}
 use Rattle.std.specs.Str.Parse.{AllDigits, digits_value}
 use Rattle.std.proofs.lemmas.Fmt.{digits_value-decimal}
 use Rattle.std.proofs.lemmas.Str.Parse.{numerals_by_value, tells_digits}
 use Rattle.uuid.specs.Text.{parsed}
+use Rattle.lr_text.specs.Words.{lacks}
 use Rattle.lr_text.specs.WordTable.{with_word}
+use Rattle.lr_text.proofs.NumberLaws.{decimal-lacks}
 use Rattle.lr_names.specs.Owner.{IsId, id_text}
 use Rattle.lr_names.proofs.OwnerLaws.{parsed-id_text}
 use Rattle.lr_objects.specs.declared.kinds.Function.{Function}
@@ -15,11 +20,15 @@ use Rattle.lr_objects.specs.declared.form.Arguments.TheVariants as arguments
 use Rattle.lr_objects.specs.declared.lock.LockFunction.TheVariants as lock
 use Rattle.lr_objects.specs.declared.want.Lease.{Lease}
 use Rattle.lr_objects.specs.declared.want.Lease.TheVariants as leases
+use Rattle.lr_objects.specs.declared.want.Mode.{Mode}
+use Rattle.lr_objects.specs.declared.want.Mode.TheVariants as modes
 use Rattle.lr_objects.specs.declared.want.Want.{Want}
 use Rattle.lr_objects.specs.Function.{function_word, arguments_of}
-use Rattle.lr_objects.specs.Want.{lease_word, argument_words}
+use Rattle.lr_objects.specs.Want.{mode_word, lease_word, argument_words}
 use Rattle.lr_objects.proofs.FunctionLaws.{IsWordTable-function_word}
-use Rattle.lr_steps.specs.EventText.{IsMillis, LeaseFits, NumberFits, IdFits, IsSpelled}
+use Rattle.lr_waiting.specs.Begin.{FitsMode}
+use Rattle.lr_machine.specs.EventText.{IsMillis, LeaseFits, NumberFits, IdFits, IsSpelled}
+use Rattle.lr_schedule.specs.Spelled.{IsMode}
 
 -- the number of a word
 pub value : List ℕ → ℕ
@@ -37,6 +46,45 @@ id_of word = unwrap_or (parsed word) []
 id_of-id_text : (id : List ℕ) → IsId id → id_of (id_text id) ≡ id
 unfolding id_of
 id_of-id_text id h = sym (ap (λ o. unwrap_or o []) (parsed-id_text id h))
+
+-- a decimal has no letter `o`, unlike the words of the other modes
+no_decimal : (n : ℕ) (word : List ℕ) → n < 2 ^ 64 → lacks 111 word ≡ false → decimal n ≢ word
+no_decimal n word small has is =
+    true≢false (sym (decimal-lacks 111 n (λ r. omega arith) small) ∙ ap (lacks 111) is ∙ has)
+
+-- the mode of a word
+pub mode_of : List ℕ → Mode
+mode_of word =
+    if bytes_eq word (codes "once") then modes.Once
+    else if bytes_eq word (codes "long") then modes.Long
+    else modes.For (value word)
+
+pub mode_of-word : (mode : Mode) → IsMode mode → mode_of (mode_word mode) ≡ mode
+unfolding mode_of
+mode_of-word modes.Once h = refl
+mode_of-word modes.Long h = refl
+mode_of-word (modes.For millis) h =
+    let small : millis < 2 ^ 64 = omega arith in
+    let word = decimal millis in
+    let is_mode : Mode → Type 0 = λ m. m ≡ modes.For millis in
+    let not : (other : List ℕ) → lacks 111 other ≡ false → bytes_eq word other ≡ true → ⊥ =
+    λ other has same. no_decimal millis other small has ((bytes_eq-Decides word other).0 same) in
+    cond_both (bytes_eq word (codes "once")) modes.Once
+    (if bytes_eq word (codes "long") then modes.Long else modes.For (value word)) is_mode
+    (λ same. absurd (not (codes "once") refl same))
+    (λ _. cond_both (bytes_eq word (codes "long")) modes.Long (modes.For (value word)) is_mode
+    (λ same. absurd (not (codes "long") refl same))
+    (λ _. ap modes.For (value-decimal millis small)))
+
+pub mode_word-injective : (a b : Mode) → IsMode a → IsMode b → mode_word a ≡ mode_word b → a ≡ b
+mode_word-injective a b in_a in_b same =
+    sym (mode_of-word a in_a) ∙ ap mode_of same ∙ mode_of-word b in_b
+
+-- a mode that fits a function is one that a word can say
+pub is_mode_fitting : (mode : Mode) (function : Function) → FitsMode mode function → IsMode mode
+is_mode_fitting modes.Once function h = tt
+is_mode_fitting (modes.For millis) function h = h.1
+is_mode_fitting modes.Long function h = tt
 
 -- the function of a word
 pub function_of : List ℕ → Function

@@ -1,5 +1,5 @@
 -- Each word of an event is one word: it has no space.
-use Rattle.std.proofs.Common.{◌≢◌, ℕ, ◌<◌, Bool, true, false, List, [], ◌∷◌, IsTrue, if◌then◌else◌, codes, decimal, refl, arith}
+use Rattle.std.proofs.Common.{◌≢◌, ℕ, ◌<◌, Bool, true, false, List, [], ◌∷◌, IsTrue, if◌then◌else◌, decimal, refl, arith}
 use Rattle.std.proofs.lemmas.Bool.{and_from}
 use Rattle.std.proofs.lemmas.Bool.Decides.{nat_tests}
 use Rattle.uuid.specs.Text.{lower, hex_digit, nibble, digit_place, is_hyphen_place}
@@ -13,13 +13,18 @@ use Rattle.lr_names.proofs.OwnerLaws.{length-id_text}
 use Rattle.lr_objects.specs.declared.form.Arguments.{Arguments}
 use Rattle.lr_objects.specs.declared.form.Arguments.TheVariants as arguments
 use Rattle.lr_objects.specs.declared.want.Lease.{Lease}
+use Rattle.lr_objects.specs.declared.want.Mode.{Mode}
+use Rattle.lr_objects.specs.declared.want.Mode.TheVariants as modes
 use Rattle.lr_objects.specs.declared.want.Want.{Want}
 use Rattle.lr_objects.specs.Function.{arguments_of}
 use Rattle.lr_objects.specs.Want.{mode_word, lease_word, argument_words, want_words}
 use Rattle.lr_objects.proofs.FunctionLaws.{function_word-lacks}
-use Rattle.lr_steps.specs.declared.event.Event.{Event}
-use Rattle.lr_steps.specs.declared.event.Event.TheVariants.{Begin, Ask, Exec, Take, Tick, Force}
-use Rattle.lr_steps.specs.EventText.{event_words, IsMillis, LeaseFits, NumberFits, AreNumbers, IsEvent}
+use Rattle.lr_machine.specs.EventText.{IsMillis, LeaseFits, NumberFits, AreNumbers}
+use Rattle.lr_schedule.specs.declared.spelled.Spelled.{Spelled}
+use Rattle.lr_schedule.specs.declared.spelled.Spelled.TheVariants.{Begin, Thread, Client, Tick, Force, Show}
+use Rattle.lr_schedule.specs.Spelled.{verb_word, verb_of, more_words, CanSpell, IsMode}
+use Rattle.lr_schedule.proofs.ArgumentLaws.{is_mode_fitting}
+use Rattle.lr_schedule.proofs.VerbLaws.{verb_word-lacks}
 
 lease-is_word : (lease : Lease) → IsMillis lease → IsTrue (lacks 32 (lease_word lease))
 lease-is_word lease h = rw h.1 (decimal-is_word h.0 h.2)
@@ -62,27 +67,35 @@ argument_words-are_words arguments.IdAndLease want lease number =
     let millis = one_word (lease_word want.lease) (lease-is_word want.lease lease) in
     and_from _ _ (id_text-is_word want.id) millis
 
--- a verb, a client and a thread
-who_words : (verb : List ℕ) (client thread : ℕ) (words : List (List ℕ)) → IsTrue (lacks 32 verb)
-    → AreNumbers client thread → IsTrue (are_words words)
-    → IsTrue (are_words (verb ∷ decimal client ∷ decimal thread ∷ words))
-who_words verb client thread words one h rest =
+-- a client and a thread
+who_words : (client thread : ℕ) (words : List (List ℕ)) → AreNumbers client thread
+    → IsTrue (are_words words) → IsTrue (are_words (decimal client ∷ decimal thread ∷ words))
+who_words client thread words h rest =
     let named = and_from _ _ (decimal-is_word thread h.1) rest in
-    and_from _ _ one (and_from _ _ (decimal-is_word client h.0) named)
+    and_from _ _ (decimal-is_word client h.0) named
 
--- no word of an event has a space
-pub event_words-are_words : (event : Event) → IsEvent event
-    → IsTrue (are_words (event_words event))
-event_words-are_words (Begin client thread mode want) h =
-    let once : IsTrue (lacks 32 (mode_word mode)) = rw h.1.at_once refl in
+mode-is_word : (mode : Mode) → IsMode mode → IsTrue (lacks 32 (mode_word mode))
+mode-is_word modes.Once h = refl
+mode-is_word (modes.For millis) h = decimal-is_word millis (omega arith)
+mode-is_word modes.Long h = refl
+
+-- behind a verb
+more_words-are_words : (s : Spelled) → CanSpell s → IsTrue (are_words (more_words s))
+more_words-are_words (Begin who mode want) h =
+    let is_mode = mode-is_word mode (is_mode_fitting mode want.function h.1.wait) in
     let a = arguments_of want.function in
     let given = argument_words-are_words a want h.2.lease h.2.number in
     let named = and_from _ _ (name-lacks 32 want.name refl h.2.named) given in
-    let wanted = and_from _ _ once (and_from _ _ (function_word-lacks want.function) named) in
-    who_words (codes "begin") client thread (mode_word mode ∷ want_words want) refl h.0 wanted
-event_words-are_words (Ask client thread) h = who_words (codes "ask") client thread [] refl h refl
-event_words-are_words (Exec client thread) h = who_words (codes "exec") client thread [] refl h refl
-event_words-are_words (Take client thread) h = who_words (codes "take") client thread [] refl h refl
-event_words-are_words (Tick moment) h =
-    and_from _ _ refl (one_word (decimal moment) (decimal-is_word moment (omega arith)))
-event_words-are_words (Force name) h = and_from _ _ refl (one_word name (name-lacks 32 name refl h))
+    let wanted = and_from _ _ is_mode (and_from _ _ (function_word-lacks want.function) named) in
+    who_words who.client who.thread (mode_word mode ∷ want_words want) h.0 wanted
+more_words-are_words (Thread verb who) h = who_words who.client who.thread [] h refl
+more_words-are_words (Client verb client) h = one_word (decimal client) (decimal-is_word client h)
+more_words-are_words (Tick moment) h =
+    one_word (decimal moment) (decimal-is_word moment (omega arith))
+more_words-are_words (Force name) h = one_word name (name-lacks 32 name refl h)
+more_words-are_words Show h = refl
+
+-- no word that spells an event has a space
+pub spelled-are_words : (s : Spelled) → CanSpell s
+    → IsTrue (are_words (verb_word (verb_of s) ∷ more_words s))
+spelled-are_words s h = and_from _ _ (verb_word-lacks (verb_of s)) (more_words-are_words s h)

@@ -3,7 +3,7 @@ ghost use Rattle.lr_objects.specs.declared.want.Want.{Want};
 ghost use Rattle.lr_objects.specs.Amount.{IsAmount};
 ghost use Rattle.lr_objects.specs.Want.{lease_word, argument_words};
 ghost use Rattle.lr_objects.specs.declared.want.Lease.{Lease};
-ghost use Rattle.lr_steps.specs.EventText.{IsMillis};
+ghost use Rattle.lr_machine.specs.EventText.{IsMillis};
 ghost use Rattle.lr_schedule.specs.Spelled.{IsGiven};
 
 use crate::fault::Expected;

@@ -7,7 +7,8 @@ use crate::read::read_spelled;
 use crate::spelled::Spelled;
 use crate::verb::Verb;
 use lr_limits::{
-    LAST_MOMENT, LINE_BYTES, MOST_AMOUNT, MOST_CLIENTS, MOST_EVENTS, MOST_THREADS, NAME_BYTES,
+    LAST_MOMENT, LINE_BYTES, LONGEST_LEASE, MOST_AMOUNT, MOST_CLIENTS, MOST_EVENTS, MOST_THREADS,
+    NAME_BYTES,
 };
 use lr_objects::Function;
 use lr_text::{Text, Words, write_number};
@@ -126,7 +127,7 @@ fn noun(expected: Expected) -> Option<&'static [u8]> {
         Expected::Verb => Some(b"event"),
         Expected::Client => Some(b"client"),
         Expected::Thread => Some(b"thread"),
-        Expected::Mode => Some(b"mode"),
+        Expected::Mode | Expected::Once(_) => Some(b"mode"),
         Expected::Function => Some(b"function"),
         Expected::Name => Some(b"name"),
         Expected::Lease => Some(b"lease"),
@@ -143,7 +144,8 @@ fn push_rule(text: &mut Text, expected: Expected) -> Result<(), AllocError> {
         Expected::Verb => push_verbs(text),
         Expected::Client => push_numbers(text, b"clients are ", 1, u64::from(MOST_CLIENTS)),
         Expected::Thread => push_numbers(text, b"threads are ", 1, u64::from(MOST_THREADS)),
-        Expected::Mode => text.push_bytes(b"the mode is once"),
+        Expected::Mode => push_modes(text),
+        Expected::Once(function) => push_once(text, function),
         Expected::Function => push_functions(text),
         Expected::Name => push_names(text),
         Expected::Lease => push_numbers(text, b"leases are milliseconds, ", 0, u64::MAX),
@@ -162,6 +164,22 @@ fn push_verbs(text: &mut Text) -> Result<(), AllocError> {
         front = b", ";
     }
     Ok(())
+}
+
+fn push_modes(text: &mut Text) -> Result<(), AllocError> {
+    push_numbers(
+        text,
+        b"the mode is once, long, or milliseconds, ",
+        1,
+        LONGEST_LEASE,
+    )
+}
+
+// The mode of a function with which one doesn't wait.
+fn push_once(text: &mut Text, function: Function) -> Result<(), AllocError> {
+    text.push_bytes(b"with ")?;
+    text.push_bytes(function.word())?;
+    text.push_bytes(b" the mode is once")
 }
 
 fn push_functions(text: &mut Text) -> Result<(), AllocError> {

@@ -1,3 +1,5 @@
+use lr_objects::Function;
+
 /// What a line should have at the place of a word, and doesn't have.
 #[derive(Clone, Copy)]
 pub enum Expected {
@@ -7,8 +9,10 @@ pub enum Expected {
     Client,
     /// The number of a thread.
     Thread,
-    /// The mode `once`.
+    /// How long a request may wait.
     Mode,
+    /// The mode `once`, since a request for this function doesn't wait.
+    Once(Function),
     /// A function with which a request can begin.
     Function,
     /// The name of an object.
@@ -23,6 +27,17 @@ pub enum Expected {
     Moment,
     /// Nothing: the line should be over.
     End,
+}
+
+impl Expected {
+    /// The place of the word that isn't as expected, where this is that of the last word read. That
+    /// a mode doesn't fit is known only at the word behind it, the function.
+    pub fn place(self, read: u64) -> u64 {
+        match self {
+            Expected::Once(_) => read.saturating_sub(1),
+            _ => read,
+        }
+    }
 }
 
 /// Where a line stops being the text of an event.

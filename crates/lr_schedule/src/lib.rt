@@ -6,10 +6,14 @@ mod arguments;
 mod explanation;
 mod fault;
 mod laws;
+mod line;
+mod mode;
 mod quotation;
 mod read;
 mod reader;
+mod shown;
 mod spelled;
+mod tail;
 #[cfg(test)]
 mod tests;
 mod verb;

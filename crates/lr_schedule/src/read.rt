@@ -1,27 +1,26 @@
-ghost use Rattle.std.specs.Prelude.{◌≡◌, ◌≢◌, ◌≤◌, ℕ, List, [], ◌∷◌, ◌++◌, codes, decimal, true, IsErr, IfOk, OnOk};
+ghost use Rattle.std.specs.Prelude.{◌≡◌, ◌≢◌, ◌≤◌, ℕ, List, [], ◌∷◌, ◌++◌, decimal, true, IsErr, IfOk};
 ghost use Rattle.lr_limits.specs.Limits.{last_moment};
-ghost use Rattle.lr_names.specs.Name.{IsName};
 ghost use Rattle.lr_objects.specs.declared.kinds.Function.{Function};
-ghost use Rattle.lr_objects.specs.declared.want.Mode.TheVariants.{Once};
 ghost use Rattle.lr_objects.specs.declared.want.Want.{Want};
 ghost use Rattle.lr_objects.specs.Function.{function_word, begins};
-ghost use Rattle.lr_objects.specs.Want.{mode_word, want_words};
-ghost use Rattle.lr_steps.specs.declared.event.Event.{Event};
-ghost use Rattle.lr_steps.specs.EventText.{event_text, AreNumbers, IsEvent, IsSpelled};
-ghost use Rattle.lr_steps.specs.Transcript.{IsLine};
-ghost use Rattle.lr_steps.specs.Within.{CanBegin};
+ghost use Rattle.lr_objects.specs.Want.{want_words};
+ghost use Rattle.lr_waiting.specs.Begin.{CanBegin};
+ghost use Rattle.lr_machine.specs.declared.event.Event.{Event};
+ghost use Rattle.lr_machine.specs.EventText.{event_text, AreNumbers, IsEvent, IsSpelled};
+ghost use Rattle.lr_machine.specs.Transcript.{IsLine};
 ghost use Rattle.lr_schedule.specs.declared.spelled.Spelled.{Spelled};
 ghost use Rattle.lr_schedule.specs.declared.verb.Verb.{Verb};
-ghost use Rattle.lr_schedule.specs.Spelled.{event_of, verb_word, Spells};
+ghost use Rattle.lr_schedule.specs.Spelled.{event_of, verb_word, Completes, IsMode, Spells};
 
 use crate::arguments::read_arguments;
 use crate::fault::{Expected, Fault};
+use crate::mode::{fits_mode, read_mode};
 use crate::reader::Reader;
 use crate::spelled::{Spelled, Who};
 use crate::verb::Verb;
 use lr_limits::LAST_MOMENT;
-use lr_objects::{Function, Want};
-use lr_steps::ScheduleLine;
+use lr_machine::ScheduleLine;
+use lr_objects::{Function, Mode, Want};
 
 /// What the line of a schedule with this number is.
 ///
@@ -48,7 +47,7 @@ pub fn read_spelled(line: &[u8]) -> Result<Spelled, Fault>
     match read_words(&mut reader) {
         Ok(spelled) => Ok(spelled),
         Err(expected) => Err(Fault {
-            place: reader.place(),
+            place: expected.place(reader.place()),
             expected,
         }),
     }
@@ -70,14 +69,8 @@ fn read_event(reader: &mut Reader<'_>) -> Result<Spelled, Expected>
     ensures none { IsErr result → (s : Spelled) (rest : List (List ℕ))
         → ¬ Spells reader.old s rest }
 {
-    match read_verb(reader)? {
-        Verb::Begin => read_begin(reader),
-        Verb::Ask => Ok(Spelled::Ask(read_who(reader)?)),
-        Verb::Exec => Ok(Spelled::Exec(read_who(reader)?)),
-        Verb::Take => Ok(Spelled::Take(read_who(reader)?)),
-        Verb::Tick => Ok(Spelled::Tick(read_moment(reader)?)),
-        Verb::Force => Ok(Spelled::Force(reader.name()?)),
-    }
+    let verb = read_verb(reader)?;
+    read_more(verb, reader)
 }
 
 fn read_verb(reader: &mut Reader<'_>) -> Result<Verb, Expected>
@@ -89,16 +82,32 @@ fn read_verb(reader: &mut Reader<'_>) -> Result<Verb, Expected>
     Verb::of_word(word).ok_or(Expected::Verb)
 }
 
+// What stands behind a verb.
+fn read_more(verb: Verb, reader: &mut Reader<'_>) -> Result<Spelled, Expected>
+    ensures some { IfOk result (λ s. Completes verb reader.old s reader.new) }
+    ensures none { IsErr result → (s : Spelled) (rest : List (List ℕ))
+        → ¬ Completes verb reader.old s rest }
+{
+    match verb {
+        Verb::Begin => read_begin(reader),
+        Verb::Thread(verb) => Ok(Spelled::Thread(verb, read_who(reader)?)),
+        Verb::Client(verb) => Ok(Spelled::Client(verb, reader.number(Expected::Client)?)),
+        Verb::Tick => Ok(Spelled::Tick(read_moment(reader)?)),
+        Verb::Force => Ok(Spelled::Force(reader.name()?)),
+        Verb::Show => Ok(Spelled::Show),
+    }
+}
+
 // What stands behind `begin`.
 fn read_begin(reader: &mut Reader<'_>) -> Result<Spelled, Expected>
-    ensures some { IfOk result (λ s. Spells (codes "begin" ∷ reader.old) s reader.new) }
+    ensures some { IfOk result (λ s. Completes Verb.Begin reader.old s reader.new) }
     ensures none { IsErr result → (s : Spelled) (rest : List (List ℕ))
-        → ¬ Spells (codes "begin" ∷ reader.old) s rest }
+        → ¬ Completes Verb.Begin reader.old s rest }
 {
     let who = read_who(reader)?;
-    read_once(reader)?;
-    let want = read_want(reader)?;
-    Ok(Spelled::Begin(who, want))
+    let mode = read_mode(reader)?;
+    let want = read_want(mode, reader)?;
+    Ok(Spelled::Begin(who, mode, want))
 }
 
 // A client and a thread.
@@ -114,26 +123,19 @@ fn read_who(reader: &mut Reader<'_>) -> Result<Who, Expected>
     Ok(Who { client, thread })
 }
 
-// The mode with which each request begins.
-fn read_once(reader: &mut Reader<'_>) -> Result<(), Expected>
-    ensures some { OnOk result (reader.old ≡ mode_word Once ∷ reader.new) }
-    ensures none { IsErr result → (rest : List (List ℕ)) → reader.old ≢ mode_word Once ∷ rest }
-{
-    if reader.word(Expected::Mode)? != b"once".as_slice() {
-        return Err(Expected::Mode);
-    }
-    Ok(())
-}
-
-// What a request wants.
-fn read_want(reader: &mut Reader<'_>) -> Result<Want, Expected>
+// What a request with this mode wants.
+fn read_want(mode: Mode, reader: &mut Reader<'_>) -> Result<Want, Expected>
+    requires { IsMode mode }
     ensures some { IfOk result (λ want. reader.old ≡ want_words want ++ reader.new) }
-    ensures begins { IfOk result (λ want. CanBegin Once want) }
+    ensures begins { IfOk result (λ want. CanBegin mode want) }
     ensures spelled { IfOk result IsSpelled }
-    ensures none { IsErr result → (want : Want) (rest : List (List ℕ)) → CanBegin Once want
+    ensures none { IsErr result → (want : Want) (rest : List (List ℕ)) → CanBegin mode want
         → IsSpelled want → reader.old ≢ want_words want ++ rest }
 {
     let function = read_function(reader)?;
+    if !fits_mode(mode, function) {
+        return Err(Expected::Once(function));
+    }
     let name = reader.name()?;
     read_arguments(function.arguments(), function, name, reader)
 }

@@ -2,7 +2,7 @@ ghost use Rattle.std.specs.Prelude.{◌≡◌, ◌≢◌, ◌<◌, ◌^◌, ℕ,
 ghost use Rattle.lr_text.specs.Words.{words_of, joined};
 ghost use Rattle.lr_names.specs.Name.{IsName};
 ghost use Rattle.lr_names.specs.Owner.{IsId, id_text};
-ghost use Rattle.lr_steps.specs.EventText.{IsNumber};
+ghost use Rattle.lr_machine.specs.EventText.{IsNumber};
 
 use crate::fault::Expected;
 use lr_names::{Name, read_id};

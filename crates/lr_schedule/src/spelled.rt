@@ -1,13 +1,14 @@
 ghost use Rattle.std.specs.Prelude.{◌≡◌, ◌↔◌, ◌≤◌, ℕ, IsTrue, IsErr, IfOk};
 ghost use Rattle.lr_names.specs.Owner.{IsThread};
-ghost use Rattle.lr_steps.specs.Within.{IsClient, IsWithin};
+ghost use Rattle.lr_machine.specs.Within.{IsClient, IsWithin};
 ghost use Rattle.lr_schedule.specs.Spelled.{event_of, AreWithin, IsLimited};
 
 use crate::fault::Outside;
+use crate::verb::{ClientVerb, ThreadVerb};
 use lr_limits::{MOST_CLIENTS, MOST_EVENTS, MOST_THREADS};
+use lr_machine::{Event, ScheduleLine, ThreadId};
 use lr_names::Name;
 use lr_objects::{Mode, Want};
-use lr_steps::{Event, ScheduleLine, ThreadId};
 
 /// A client and a thread as a line spells them: they may be outside the limits.
 #[derive(Clone, Copy)]
@@ -21,18 +22,18 @@ pub struct Who {
 /// An event as a line spells it.
 #[derive(Clone, Copy)]
 pub enum Spelled {
-    /// A thread begins a request that doesn't wait.
-    Begin(Who, Want),
-    /// The thread's call is sent.
-    Ask(Who),
-    /// The server executes the thread's call.
-    Exec(Who),
-    /// The thread takes the reply.
-    Take(Who),
+    /// A thread begins a request.
+    Begin(Who, Mode, Want),
+    /// A thread does something.
+    Thread(ThreadVerb, Who),
+    /// The client with this number does something. It may be outside the limits.
+    Client(ClientVerb, u64),
     /// The clock shows this moment.
     Tick(u64),
     /// An operator takes a lock away.
     Force(Name),
+    /// It is asked what stands for those that sleep.
+    Show,
 }
 
 impl Who {
@@ -43,17 +44,27 @@ impl Who {
         ensures within { IfOk result (λ id. IsClient id.client × IsThread id.thread) }
         ensures none { IsErr result → ¬ AreWithin self.now }
     {
-        if !is_client(self.client) {
-            return Err(Outside::Client(self.client));
-        }
+        let client = client_id(self.client)?;
         if !is_thread(self.thread) {
             return Err(Outside::Thread(self.thread));
         }
         Ok(ThreadId {
-            client: self.client as u32,
+            client,
             thread: self.thread as u32,
         })
     }
+}
+
+// The client with this number: an error exactly outside the limits.
+fn client_id(number: u64) -> Result<u32, Outside>
+    ensures some { IfOk result (λ client. client ≡ number) }
+    ensures within { IfOk result IsClient }
+    ensures none { IsErr result → ¬ IsClient number }
+{
+    if !is_client(number) {
+        return Err(Outside::Client(number));
+    }
+    Ok(number as u32)
 }
 
 fn is_client(number: u64) -> bool
@@ -76,29 +87,26 @@ impl Spelled {
         ensures none { IsErr result → ¬ IsWithin (event_of self.now) }
     {
         match self {
-            Spelled::Begin(who, want) => {
+            Spelled::Begin(who, mode, want) => {
                 let ThreadId { client, thread } = who.thread_id()?;
                 Ok(Event::Begin {
                     client,
                     thread,
-                    mode: Mode::Once,
+                    mode: *mode,
                     want: *want,
                 })
             }
-            Spelled::Ask(who) => {
-                let ThreadId { client, thread } = who.thread_id()?;
-                Ok(Event::Ask { client, thread })
+            Spelled::Thread(verb, who) => {
+                let id = who.thread_id()?;
+                Ok(verb.event(id))
             }
-            Spelled::Exec(who) => {
-                let ThreadId { client, thread } = who.thread_id()?;
-                Ok(Event::Exec { client, thread })
-            }
-            Spelled::Take(who) => {
-                let ThreadId { client, thread } = who.thread_id()?;
-                Ok(Event::Take { client, thread })
+            Spelled::Client(verb, number) => {
+                let client = client_id(*number)?;
+                Ok(verb.event(client))
             }
             Spelled::Tick(moment) => Ok(Event::Tick(*moment)),
             Spelled::Force(name) => Ok(Event::Force(*name)),
+            Spelled::Show => Ok(Event::Show),
         }
     }
 

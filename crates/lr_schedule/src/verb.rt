@@ -1,34 +1,131 @@
 ghost use Rattle.std.specs.Prelude.{◌≡◌, ◌≢◌, IsNone, IfSome};
 ghost use Rattle.lr_text.specs.WordTable.{with_word};
 ghost use Rattle.lr_schedule.specs.declared.verb.Verb.{Verb};
-ghost use Rattle.lr_schedule.specs.Spelled.{verb_word};
+ghost use Rattle.lr_schedule.specs.Spelled.{thread_word, client_word, thread_event, client_event, verb_word};
+
+use lr_machine::{Event, ThreadId};
+
+/// What a thread does in an event that names nothing else.
+#[derive(Clone, Copy)]
+pub enum ThreadVerb {
+    /// Its call is sent.
+    Ask,
+    /// The server executes its call.
+    Exec,
+    /// It takes the reply.
+    Take,
+    /// It looks whether it is to sleep.
+    Check,
+    /// It is woken.
+    Wake,
+    /// Its timer fires.
+    Fire,
+    /// It gives up.
+    Quit,
+}
+
+/// What a client does in an event that names nothing else.
+#[derive(Clone, Copy)]
+pub enum ClientVerb {
+    /// The server gets its oldest order.
+    Sub,
+    /// It takes the oldest item that it was sent.
+    Push,
+    /// It is cut off.
+    Cut,
+}
 
 /// What an event does, without whom and what it does it to.
 #[derive(Clone, Copy)]
 pub enum Verb {
     /// A thread begins a request.
     Begin,
-    /// The thread's call is sent.
-    Ask,
-    /// The server executes the thread's call.
-    Exec,
-    /// The thread takes the reply.
-    Take,
+    /// A thread does something.
+    Thread(ThreadVerb),
+    /// A client does something.
+    Client(ClientVerb),
     /// The clock shows a moment.
     Tick,
     /// An operator takes a lock away.
     Force,
+    /// It is asked what stands for those that sleep.
+    Show,
+}
+
+impl ThreadVerb {
+    /// The word of the verb.
+    pub fn word(self) -> &'static [u8]
+        ensures { result.now ≡ thread_word self }
+    {
+        match self {
+            ThreadVerb::Ask => b"ask",
+            ThreadVerb::Exec => b"exec",
+            ThreadVerb::Take => b"take",
+            ThreadVerb::Check => b"check",
+            ThreadVerb::Wake => b"wake",
+            ThreadVerb::Fire => b"fire",
+            ThreadVerb::Quit => b"quit",
+        }
+    }
+
+    /// The event in which a thread does it.
+    pub fn event(self, id: ThreadId) -> Event
+        ensures { result ≡ thread_event self id.client id.thread }
+    {
+        let ThreadId { client, thread } = id;
+        match self {
+            ThreadVerb::Ask => Event::Ask { client, thread },
+            ThreadVerb::Exec => Event::Exec { client, thread },
+            ThreadVerb::Take => Event::Take { client, thread },
+            ThreadVerb::Check => Event::Check { client, thread },
+            ThreadVerb::Wake => Event::Wake { client, thread },
+            ThreadVerb::Fire => Event::Fire { client, thread },
+            ThreadVerb::Quit => Event::Quit { client, thread },
+        }
+    }
+}
+
+impl ClientVerb {
+    /// The word of the verb.
+    pub fn word(self) -> &'static [u8]
+        ensures { result.now ≡ client_word self }
+    {
+        match self {
+            ClientVerb::Sub => b"sub",
+            ClientVerb::Push => b"push",
+            ClientVerb::Cut => b"cut",
+        }
+    }
+
+    /// The event in which a client does it.
+    pub fn event(self, client: u32) -> Event
+        ensures { result ≡ client_event self client }
+    {
+        match self {
+            ClientVerb::Sub => Event::Sub { client },
+            ClientVerb::Push => Event::Push { client },
+            ClientVerb::Cut => Event::Cut { client },
+        }
+    }
 }
 
 impl Verb {
     /// All verbs.
-    pub const ALL: [Verb; 6] = [
+    pub const ALL: [Verb; 14] = [
         Verb::Begin,
-        Verb::Ask,
-        Verb::Exec,
-        Verb::Take,
+        Verb::Thread(ThreadVerb::Ask),
+        Verb::Thread(ThreadVerb::Exec),
+        Verb::Thread(ThreadVerb::Take),
+        Verb::Thread(ThreadVerb::Check),
+        Verb::Thread(ThreadVerb::Wake),
+        Verb::Thread(ThreadVerb::Fire),
+        Verb::Thread(ThreadVerb::Quit),
+        Verb::Client(ClientVerb::Sub),
+        Verb::Client(ClientVerb::Push),
         Verb::Tick,
         Verb::Force,
+        Verb::Client(ClientVerb::Cut),
+        Verb::Show,
     ];
 
     /// The word of the verb.
@@ -37,11 +134,11 @@ impl Verb {
     {
         match self {
             Verb::Begin => b"begin",
-            Verb::Ask => b"ask",
-            Verb::Exec => b"exec",
-            Verb::Take => b"take",
+            Verb::Thread(verb) => verb.word(),
+            Verb::Client(verb) => verb.word(),
             Verb::Tick => b"tick",
             Verb::Force => b"force",
+            Verb::Show => b"show",
         }
     }
 

@@ -1,7 +1,7 @@
 use Rattle.std.proofs.Common.{◌++◌, refl, subst, ap, ◌∙◌}
 use Rattle.lr_objects.specs.declared.form.Arguments.{Arguments}
 use Rattle.lr_objects.specs.Want.{argument_words}
-use Rattle.lr_steps.specs.EventText.{IdFits}
+use Rattle.lr_machine.specs.EventText.{IdFits}
 use Rattle.lr_schedule.proofs.arguments.read_arguments.Goals as goal
 
 pub returns-in_err-id-in-Id-clause-none : goal.returns-in_err-id-in-Id-clause-none
