@@ -1,5 +1,5 @@
 //! What stands for the threads that sleep.
-ghost use Rattle.std.specs.Prelude.{◌≡◌, ◌++◌, ℕ, nat_lt, IfOk, OnOk};
+ghost use Rattle.std.specs.Prelude.{◌≡◌, ◌+◌, ◌++◌, ℕ, nat_lt, IfOk, OnOk};
 ghost use Rattle.lr_limits.specs.Limits.{thread_limit};
 ghost use Rattle.lr_names.specs.Owner.{IsThread};
 ghost use Rattle.lr_model.specs.Board.{numbers_below};
