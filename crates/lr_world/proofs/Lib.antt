@@ -1,3 +1,4 @@
 pub mod Servers
 pub mod CallLaws
 pub mod CutLaws
+pub mod DropLaws
