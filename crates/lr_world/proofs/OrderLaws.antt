@@ -1,7 +1,9 @@
 -- An order of a client, and the item that it takes, as steps of the server.
-use Rattle.std.proofs.Common.{◌≡◌, ◌≢◌, ◌≤◌, ◌<◌, ℕ, nat_le, Bool, true, false, not, ◌&&◌, ◌||◌, List, length, Result, Ok, Err, Option, Some, None, if◌then◌else◌, ◌↔◌, refl, sym, ap, ◌∙◌, subst, arith}
+use Rattle.std.proofs.Common.{◌≡◌, ◌≢◌, ◌≤◌, ◌<◌, ℕ, nat_le, Bool, true, false, not, ◌&&◌, ◌||◌, List, [], ◌∷◌, length, slice_get, Result, Ok, Err, Option, Some, None, if◌then◌else◌, ◌↔◌, refl, sym, ap, ◌∙◌, subst, arith}
+use Rattle.std.proofs.lemmas.Bool.{le-leb}
 use Rattle.lr_limits.specs.Limits.{entry_limit, last_moment}
-use Rattle.lr_model.specs.declared.entry.Act.{Act}
+use Rattle.lr_names.specs.declared.post.Push.{Push}
+use Rattle.lr_model.specs.declared.entry.Act.TheVariants.{Drain}
 use Rattle.lr_model.specs.declared.entry.Entry.{Entry}
 use Rattle.lr_model.specs.Board.{Connection, has_room}
 use Rattle.lr_model.specs.History.{State, after, Counts, entry_of as history_entry, result_of}
@@ -17,8 +19,8 @@ use Rattle.lr_server.specs.declared.answered.Answer.TheVariants as answers
 use Rattle.lr_server.specs.declared.answered.Answered.{Answered}
 use Rattle.lr_server.specs.declared.fault.StepFault.{StepFault}
 use Rattle.lr_server.specs.declared.fault.StepFault.TheVariants as faults
-use Rattle.lr_server.specs.Server.{ServerValue, connection_of, entry_made, entry_of, fault_of, is_only_subscribed, is_stopped, result_in, result_made, state_of, told_by, with_entry, with_made}
-use Rattle.lr_world.specs.Steps.{channels_sent, heard_on, with_order}
+use Rattle.lr_server.specs.Server.{ServerValue, connection_of, drain_made, entry_made, entry_of, fault_of, is_only_subscribed, is_stopped, result_in, result_made, takes_some, told_by, with_entry, with_made}
+use Rattle.lr_world.specs.Steps.{channels_sent, heard_on, with_item, with_order}
 use Rattle.lr_world.proofs.Servers.{connection_is, entry_is, not_full, state_is}
 
 -- An order runs no function.
@@ -196,3 +198,34 @@ none-sent order connection told = by (has_room connection) refl
     by false is = is
     by true is = absurd (cc (told
         ∙ ap (λ b. if b then Some (channels_after order connection) else None) is))
+
+-- An item that is handed out: none where none waits.
+pub item-made : (server : ServerValue) (moment client caller conn : ℕ) → server.last ≡ 128
+    → (after first_state server.entries).moment ≤ moment → moment ≤ last_moment
+    → caller ≡ client_caller client → conn ≡ subscription_connection client
+    → with_made server (drain_made server moment caller conn 1)
+    ≡ with_item server moment client (slice_get (heard_on server.entries client).outbox 0)
+item-made server moment client caller conn first in_time early is_caller is_conn =
+    ap (λ (x : Connection). with_made server (if takes_some 1 x
+    then Some (entry_of server moment caller conn (Drain 1)) else None))
+    (connection_is server first conn ∙ ap (after first_state server.entries).board is_conn)
+    ∙ by (heard_on server.entries client).outbox
+  where
+    entry : entry_of server moment caller conn (Drain 1)
+        ≡ history_entry moment (client_caller client) (subscription_connection client) (Drain 1)
+    entry =
+        entry_is server first moment caller conn (Drain 1) in_time early
+        ∙ ap (λ n. history_entry moment n conn (Drain 1)) is_caller
+        ∙ ap (λ n. history_entry moment (client_caller client) n (Drain 1)) is_conn
+
+    by : (outbox : List Push)
+        → with_made server (if nat_le 1 1 && nat_le 1 (length outbox)
+        then Some (entry_of server moment caller conn (Drain 1)) else None)
+        ≡ with_item server moment client (slice_get outbox 0)
+    by [] = refl
+    by (item ∷ items) =
+        let some : nat_le 1 (length (item ∷ items)) ≡ true =
+        le-leb 1 (length (item ∷ items)) (omega arith) in
+        ap (λ b. with_made server (if true && b
+        then Some (entry_of server moment caller conn (Drain 1)) else None)) some
+        ∙ ap (with_entry server) entry
