@@ -17,6 +17,7 @@ use crate::stands::standings;
 use lr_clients::ClientTable;
 use lr_limits::LAST_MOMENT;
 use lr_machine::{Event, Shown, Standings, ThreadId};
+use lr_machine_wakeups::the_facts_hold_before_the_first_event;
 use lr_server::{History, ServerState};
 use std::alloc::{AllocError, Global};
 use std::marker::Model;
@@ -63,6 +64,8 @@ impl World {
         ensures first { IfOk result (λ w. world_of w ≡ first_world) }
         ensures unused { IfOk result (λ w. w.applied ≡ 0) }
     {
+        // It does nothing: the proof reads its clause.
+        the_facts_hold_before_the_first_event();
         Ok(World {
             alloc,
             server: ServerState::new(alloc, LAST_CONNECTION)?,
