@@ -17,7 +17,10 @@ use crate::stands::standings;
 use lr_clients::ClientTable;
 use lr_limits::LAST_MOMENT;
 use lr_machine::{Event, Shown, Standings, ThreadId};
-use lr_machine_wakeups::the_facts_hold_before_the_first_event;
+use lr_machine_wakeups::{
+    an_event_keeps_the_facts, no_wakeup_is_lost_where_the_facts_hold,
+    the_facts_hold_before_the_first_event,
+};
 use lr_server::{History, ServerState};
 use std::alloc::{AllocError, Global};
 use std::marker::Model;
@@ -99,6 +102,9 @@ impl World {
         // event finds a full history.
         ensures few { length self.new.entries ≤ self.new.applied + 128 }
     {
+        // They do nothing: the proof reads their clauses.
+        an_event_keeps_the_facts();
+        no_wakeup_is_lost_where_the_facts_hold();
         let shown = run(
             self.alloc,
             &mut self.server,
