@@ -1,2 +1,3 @@
 pub mod StandLaws
 pub mod WorldLaws
+pub mod AloneLaws
