@@ -35,12 +35,25 @@ next-alone world (Quit c t) client is = row-at world (client_row (quit_row t)) c
 next-alone world _ client is = absurd (none_some client (sym is))
 
 -- the world whose clients these are
-with_clients : (entries : List Entry) (moment : ℕ) {one other : ℕ → Client} → one ≡ other
-    → record { entries = entries; moment = moment; clients = one }
-    ≡ record { entries = entries; moment = moment; clients = other }
-with_clients entries moment same =
-    ap (λ (clients : ℕ → Client).
-    record { entries = entries; moment = moment; clients = clients }) same
+abbrev world_at : List Entry → ℕ → (ℕ → Client) → World
+world_at entries moment clients =
+    record { entries = entries; moment = moment; clients = clients }
+
+same_world : (entries : List Entry) (moment : ℕ) (old new : List ClientValue)
+    → clients_of new ≡ clients_of old
+    → world_with entries moment new ≡ world_with entries moment old
+same_world entries moment old new same = ap (world_at entries moment) same
+
+next_world : (entries : List Entry) (moment : ℕ) (old new : List ClientValue) (event : Event)
+    (client : ℕ) → client_alone event ≡ Some client
+    → clients_of new
+    ≡ clients_after (clients_of old) client (row_by moment event (clients_of old client))
+    → world_with entries moment new ≡ next (world_with entries moment old) event
+next_world entries moment old new event client is same =
+    let row : world_with entries moment new
+    ≡ next_row (world_with entries moment old) client
+    (row_by moment event (clients_of old client)) = ap (world_at entries moment) same in
+    row ∙ next-alone (world_with entries moment old) event client is
 
 -- the world after a step of a client
 pub alone-ok : {T E : Type 0} (result : Result T E) (entries : List Entry) (moment : ℕ)
@@ -51,13 +64,11 @@ pub alone-ok : {T E : Type 0} (result : Result T E) (entries : List Entry) (mome
     → OnOk result
     (world_with entries moment new ≡ next (world_with entries moment old) event)
 alone-ok result entries moment old new event client is =
-    on_ok_weaker result
-    (λ same. with_clients entries moment same
-    ∙ next-alone (world_with entries moment old) event client is)
+    on_ok_weaker result (next_world entries moment old new event client is)
 
 -- and where it found no memory
 pub alone-err : {T E : Type 0} (result : Result T E) (entries : List Entry) (moment : ℕ)
     (old new : List ClientValue) → OnErr result (clients_of new ≡ clients_of old)
     → OnErr result (world_with entries moment new ≡ world_with entries moment old)
 alone-err result entries moment old new =
-    on_err_weaker result (λ same. with_clients entries moment same)
+    on_err_weaker result (same_world entries moment old new)
