@@ -95,7 +95,7 @@ AreConnected-closed board clients c closable connected = record {
 }
 
 -- the others can still be closed
-AreClosable-closed : (board : Board) (clients : ℕ → Client) (c : ℕ) (cs : List ℕ) → IsClient c
+pub AreClosable-closed : (board : Board) (clients : ℕ → Client) (c : ℕ) (cs : List ℕ) → IsClient c
     → AreApart c cs → AreClosable board clients cs → AreClosable (closed_board board c) clients cs
 AreClosable-closed board clients c [] within apart closable = tt
 AreClosable-closed board clients c (d ∷ ds) within apart closable =
