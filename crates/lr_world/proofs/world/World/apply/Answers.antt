@@ -1,4 +1,4 @@
-use Rattle.std.proofs.Common.{◌≡◌, ℕ, ◌+◌, ◌++◌, Result, Ok, Err, OnErr, refl, ap, sym, ◌∙◌, subst, arith}
+use Rattle.std.proofs.Common.{◌≡◌, ◌+◌, ◌++◌, Result, Ok, Err, OnErr, refl, ap, ◌∙◌, arith}
 use Rattle.lr_model.specs.History.{deeds_of}
 use Rattle.lr_machine.specs.Deeds.{deeds_of_event}
 use Rattle.lr_machine.specs.Shown.{shown}
@@ -24,6 +24,14 @@ err_world c =
 
 pub invariant_of-self : goal.invariant_of-self
 invariant_of-self c = err_world c
+
+on_err : {T E P : Type 0} (result : Result T E) → P → OnErr result P
+on_err (Ok value) holds = tt
+on_err (Err error) holds = holds
+
+pub returns-in_err-shown-clause-err : goal.returns-in_err-shown-clause-err
+returns-in_err-shown-clause-err c =
+    on_err c.from_residual.result (c.in_err-shown.ensures.err ∙ ap world_of c.self.view_is)
 
 pub returns-in_err-shown-clause-sound : goal.returns-in_err-shown-clause-sound
 returns-in_err-shown-clause-sound c =
