@@ -5,3 +5,4 @@ pub mod Servers
 pub mod CallLaws
 pub mod CutLaws
 pub mod DropLaws
+pub mod OrderLaws

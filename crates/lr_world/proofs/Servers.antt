@@ -1,5 +1,5 @@
 -- The server of a world: what it is now, and the entries that it makes.
-use Rattle.std.proofs.Common.{◌≡◌, ℕ, ◌≤◌, ◌<◌, length, Bool, true, false, if◌then◌else◌, nat_le, Option, Some, None, refl, sym, ap, ◌∙◌, arith}
+use Rattle.std.proofs.Common.{◌≡◌, ℕ, ◌≤◌, ◌<◌, length, Bool, true, false, if◌then◌else◌, nat_le, Option, Some, None, Result, Ok, Err, OnErr, refl, sym, ap, ◌∙◌, arith}
 use Rattle.std.proofs.lemmas.Bool.{lt-leb}
 use Rattle.lr_limits.specs.Limits.{entry_limit, last_moment}
 use Rattle.lr_model.specs.declared.entry.Act.{Act}
@@ -58,3 +58,8 @@ module _ (server : ServerValue) (first : server.last ≡ 128) where
       → entry_of server moment caller conn act ≡ history_entry moment caller conn act
   entry_is moment caller conn act in_time early =
       ap (λ m. history_entry m caller conn act) (moment_is moment in_time early)
+
+-- what is so anyhow is so after an error
+pub on_err : {A E P : Type 0} (result : Result A E) → P → OnErr result P
+on_err (Ok value) p = tt
+on_err (Err error) p = p

@@ -15,7 +15,6 @@ ghost use Rattle.lr_server.specs.Server.{act_of as request_act};
 ghost use Rattle.lr_world.specs.Steps.{channels_sent, heard_on, with_order};
 ghost use Rattle.lr_world.specs.World.{world_with};
 
-use crate::call::no_memory;
 use crate::cuts::cut_client;
 use crate::numbers::{client_caller, subscription_connection};
 use lr_clients::ClientTable;
@@ -106,7 +105,9 @@ fn send(
     match server.step(moment, client_caller(client), connection, &request) {
         Ok(answered) => Ok(Some(count_of(answered.answer))),
         Err(StepFault::Dropped) => Ok(None),
-        Err(fault) => Err(no_memory(fault)),
+        Err(StepFault::NoMemory) => Err(AllocError),
+        Err(StepFault::HistoryFull) => unreachable!(),
+        Err(StepFault::TooManyConnections) => unreachable!(),
     }
 }
 
