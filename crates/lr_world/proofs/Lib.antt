@@ -1,3 +1,6 @@
+pub mod StandLaws
+pub mod WorldLaws
+pub mod AloneLaws
 pub mod Servers
 pub mod CallLaws
 pub mod CutLaws

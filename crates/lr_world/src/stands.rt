@@ -60,12 +60,7 @@ fn push_client(
 }
 
 // What stands for a thread, where it sleeps.
-fn stand(
-    server: &ServerState,
-    clients: &ClientTable,
-    client: u32,
-    thread: u32,
-) -> Option<Stand>
+fn stand(server: &ServerState, clients: &ClientTable, client: u32, thread: u32) -> Option<Stand>
     requires client { IsClient client }
     requires thread { IsThread thread }
     requires first { server.now.last ≡ 128 }

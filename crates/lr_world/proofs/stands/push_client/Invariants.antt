@@ -1,0 +1,10 @@
+use Rattle.std.proofs.Common.{◌≡◌, ◌++◌, ℕ}
+use Rattle.lr_machine.specs.Shown.{standings_in}
+use Rattle.lr_world.specs.World.{world_with}
+use Rattle.lr_world.proofs.StandLaws.{numbers_to}
+use Rattle.lr_world.proofs.stands.push_client.Given as goal
+
+abbrev pub invariant-loop-before : goal.invariant-loop-before
+invariant-loop-before l = (moment : ℕ) → l.standings
+    ≡ l.fn.standings ++ standings_in (world_with l.server.entries moment l.clients) l.client
+    (numbers_to l.before)
