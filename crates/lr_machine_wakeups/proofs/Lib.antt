@@ -5,5 +5,5 @@ mod Asked
 mod Posts
 mod Answers
 mod Entries
-mod Worlds
-mod Schedules
+pub mod Worlds
+pub mod Schedules

@@ -1,5 +1,5 @@
 -- Events that are steps of one client alone.
-use Rattle.std.proofs.Common.{◌≡◌, ℕ, List, Option, Some, None, Result, OnErr, OnOk, ap, sym, ◌∙◌}
+use Rattle.std.proofs.Common.{◌≡◌, ℕ, List, Option, Some, Result, OnErr, OnOk, ap, sym, ◌∙◌}
 use Rattle.std.proofs.lemmas.Result.{on_err_weaker, on_ok_weaker}
 use Rattle.lr_model.proofs.ReadWriteFacts.{none_some, some_one}
 use Rattle.lr_model.specs.declared.entry.Entry.{Entry}

@@ -1,6 +1,6 @@
 -- A call of a world on a connection that may call: what the server answers, and its history
 -- afterwards.
-use Rattle.std.proofs.Common.{◌≡◌, ℕ, ◌≤◌, ◌<◌, List, length, Bool, true, false, if◌then◌else◌, nat_le, Option, Some, None, refl, sym, ap, ◌∙◌, arith}
+use Rattle.std.proofs.Common.{◌≡◌, ℕ, ◌≤◌, ◌<◌, List, length, false, if◌then◌else◌, nat_le, Option, Some, None, refl, ap, ◌∙◌}
 use Rattle.lr_limits.specs.Limits.{entry_limit, last_moment}
 use Rattle.lr_names.specs.declared.post.Post.{Post}
 use Rattle.lr_objects.specs.declared.op.Op.{Op}

@@ -141,7 +141,7 @@ pub ended : (server now later : ServerValue) (moment client caller command subsc
     → later ≡ with_entry now (entry_of now moment caller subscription Close)
     → later.entries ≡ server.entries ++ closes_of_all moment (client ∷ [])
 ended server now later moment client caller command subscription first in_time early is_caller
-        is_command is_subscription made_now made_later =
+    is_command is_subscription made_now made_later =
     twice.entries ∙ ap (λ (entries : List Entry). entries ++ second ∷ []) once.entries
     ∙ closes-one server.entries moment client
   where

@@ -8,7 +8,7 @@ use Rattle.lr_model.specs.History.{State, after, call_entry, step}
 use Rattle.lr_waiting.specs.Client.{Client}
 use Rattle.lr_machine.specs.Clients.{client_at}
 use Rattle.lr_machine.specs.Sound.{AreConnected}
-use Rattle.lr_machine.specs.World.{World, clients_dropped, cut_among, dropped_at, first_state, with_cut, with_entry as with_entry_in}
+use Rattle.lr_machine.specs.World.{clients_dropped, cut_among, dropped_at, first_state, with_cut, with_entry as with_entry_in}
 use Rattle.lr_machine_laws.proofs.Closes.{AreClosable, AreClosable-closed, AreClosable-dropped, AreDistinct, AreDistinct-dropped}
 use Rattle.lr_machine_laws.proofs.Worlds.{after-append}
 use Rattle.lr_server.specs.Server.{ServerValue, dropped_of, with_entry}
@@ -27,7 +27,7 @@ AreOpen-closable board clients (c ∷ cs) closable distinct = (
     hears = closable.0.hears;
   },
   AreOpen-closable (board_without board c) clients cs
-  (AreClosable-closed board clients c cs closable.0.within distinct.0 closable.1) distinct.1,
+      (AreClosable-closed board clients c cs closable.0.within distinct.0 closable.1) distinct.1,
 )
 
 -- the clients of the connections that a message drops

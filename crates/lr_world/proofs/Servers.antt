@@ -1,10 +1,8 @@
 -- The server of a world: what it is now, and the entries that it makes.
-use Rattle.std.proofs.Common.{◌≡◌, ℕ, ◌≤◌, ◌<◌, length, Bool, true, false, if◌then◌else◌, nat_le, Option, Some, None, Result, Ok, Err, OnErr, refl, sym, ap, ◌∙◌, arith}
+use Rattle.std.proofs.Common.{◌≡◌, ℕ, ◌≤◌, ◌<◌, length, false, nat_le, Option, Some, None, Result, Ok, Err, OnErr, refl, sym, ap, ◌∙◌, arith}
 use Rattle.std.proofs.lemmas.Bool.{lt-leb}
 use Rattle.lr_limits.specs.Limits.{entry_limit, last_moment}
 use Rattle.lr_model.specs.declared.entry.Act.{Act}
-use Rattle.lr_model.specs.declared.entry.Entry.{Entry}
-use Rattle.lr_model.specs.Board.{Connection}
 use Rattle.lr_model.specs.History.{State, state_at_start, after, entry_of as history_entry}
 use Rattle.lr_model.specs.Moment.{later}
 use Rattle.lr_machine.specs.World.{first_state}

@@ -1,5 +1,5 @@
 -- What is true of every world: at first, and after each event.
-use Rattle.std.proofs.Common.{◌≡◌, ◌<◌, ◌≤◌, ◌+◌, ◌*◌, ◌^◌, ℕ, zero, suc, List, [], length, refl, ap, sym, ◌∙◌, subst, arith}
+use Rattle.std.proofs.Common.{◌≡◌, ◌<◌, ◌≤◌, ◌+◌, ◌^◌, ℕ, zero, suc, List, [], length, refl, ap, sym, ◌∙◌, subst, arith}
 use Rattle.lr_limits.specs.Limits.{client_limit, event_limit, last_moment}
 use Rattle.lr_model.specs.declared.entry.Entry.{Entry}
 use Rattle.lr_machine.specs.declared.event.Event.{Event}

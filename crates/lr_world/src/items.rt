@@ -55,11 +55,7 @@ pub(crate) fn push(
 }
 
 // Takes the oldest item that waits for a client. An error changes nothing.
-fn take_item(
-    server: &mut ServerState,
-    moment: u64,
-    client: u32,
-) -> Result<Option<Push>, AllocError>
+fn take_item(server: &mut ServerState, moment: u64, client: u32) -> Result<Option<Push>, AllocError>
     requires client { IsClient client }
     requires first { server.old.last ≡ 128 }
     requires connected { IsConnected (after first_state server.old.entries).board client }

@@ -17,10 +17,6 @@ use crate::stands::standings;
 use lr_clients::ClientTable;
 use lr_limits::LAST_MOMENT;
 use lr_machine::{Event, Shown, Standings, ThreadId};
-use lr_machine_wakeups::{
-    an_event_keeps_the_facts, no_wakeup_is_lost_where_the_facts_hold,
-    the_facts_hold_before_the_first_event,
-};
 use lr_server::{History, ServerState};
 use std::alloc::{AllocError, Global};
 use std::marker::Model;
@@ -67,8 +63,6 @@ impl World {
         ensures first { IfOk result (λ w. world_of w ≡ first_world) }
         ensures unused { IfOk result (λ w. w.applied ≡ 0) }
     {
-        // It does nothing: the proof reads its clause.
-        the_facts_hold_before_the_first_event();
         Ok(World {
             alloc,
             server: ServerState::new(alloc, LAST_CONNECTION)?,
@@ -102,9 +96,6 @@ impl World {
         // event finds a full history.
         ensures few { length self.new.entries ≤ self.new.applied + 128 }
     {
-        // They do nothing: the proof reads their clauses.
-        an_event_keeps_the_facts();
-        no_wakeup_is_lost_where_the_facts_hold();
         let shown = run(
             self.alloc,
             &mut self.server,

@@ -1,6 +1,5 @@
-use Rattle.std.proofs.Common.{◌≡◌, ◌∷◌, [], ℕ, get_or, refl, sym, ap, ◌∙◌, subst, arith}
+use Rattle.std.proofs.Common.{◌∷◌, [], ℕ, refl, sym, ap, ◌∙◌, subst, arith}
 use Rattle.lr_model.specs.History.{after}
-use Rattle.lr_machine.specs.Clients.{client_at}
 use Rattle.lr_machine.specs.World.{World, first_state, with_cut}
 use Rattle.lr_world.specs.Cuts.{IsOpen}
 use Rattle.lr_world.specs.World.{world_with}

@@ -1,12 +1,10 @@
-use Rattle.std.proofs.Common.{◌≡◌, ◌==◌, ℕ, ◌≤◌, IsTrue, sym, ap, ◌∙◌, subst, arith}
-use Rattle.lr_limits.specs.Limits.{last_moment}
+use Rattle.std.proofs.Common.{ℕ, IsTrue, sym, ap, ◌∙◌, subst}
 use Rattle.lr_model.specs.declared.entry.Act.TheVariants.{Close}
-use Rattle.lr_model.specs.declared.entry.Entry.{Entry}
 use Rattle.lr_model.specs.Board.{is_open}
 use Rattle.lr_model.specs.History.{State, after}
 use Rattle.lr_machine.specs.Clients.{client_caller, command_connection, subscription_connection}
-use Rattle.lr_machine.specs.World.{World, closes_of_all, first_state, with_cut}
-use Rattle.lr_server.specs.Server.{ServerValue, state_of, entry_of, with_entry}
+use Rattle.lr_machine.specs.World.{first_state}
+use Rattle.lr_server.specs.Server.{state_of, entry_of, with_entry}
 use Rattle.lr_clients.specs.Client.{clients_of}
 use Rattle.lr_world.proofs.CutLaws.{IsClosed, close_of, closed, cut-one, ended, hears-still}
 use Rattle.lr_world.proofs.Servers.{state_is}

@@ -1,4 +1,4 @@
-use Rattle.std.proofs.Common.{◌≡◌, ◌==◌, ℕ, Some, sym, ap, ◌∙◌}
+use Rattle.std.proofs.Common.{◌==◌, ℕ, Some, sym, ap, ◌∙◌}
 use Rattle.lr_objects.specs.declared.reply.Reply.{Reply}
 use Rattle.lr_model.specs.History.{State, after, call_entry}
 use Rattle.lr_model.specs.Table.{put}

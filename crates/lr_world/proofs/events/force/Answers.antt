@@ -1,4 +1,4 @@
-use Rattle.std.proofs.Common.{ap, ◌∙◌}
+use Rattle.std.proofs.Common.{◌∙◌}
 use Rattle.lr_machine.specs.Clients.{operator, operator_connection}
 use Rattle.lr_machine.specs.World.{force_of}
 use Rattle.lr_clients.specs.Client.{clients_of}

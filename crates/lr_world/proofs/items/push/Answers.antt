@@ -1,12 +1,11 @@
-use Rattle.std.proofs.Common.{◌≡◌, ◌==◌, ℕ, Bool, false, Option, Some, None, slice_get, if◌then◌else◌, sym, ap, ◌∙◌}
+use Rattle.std.proofs.Common.{◌≡◌, ◌==◌, ℕ, Bool, Option, Some, None, slice_get, if◌then◌else◌, sym, ap, ◌∙◌}
 use Rattle.lr_names.specs.declared.post.Push.{Push}
 use Rattle.lr_model.specs.Table.{put}
 use Rattle.lr_waiting.specs.Client.{Client}
 use Rattle.lr_waiting.specs.Session.{pushed}
 use Rattle.lr_machine.specs.declared.shown.Found.TheVariants as found
 use Rattle.lr_machine.specs.Shown.{found_for, shown_item, shown_of}
-use Rattle.lr_machine.specs.World.{World, item_for, next_item}
-use Rattle.lr_server.specs.Server.{ServerValue}
+use Rattle.lr_machine.specs.World.{World, next_item}
 use Rattle.lr_clients.specs.Client.{clients_of}
 use Rattle.lr_world.specs.Steps.{heard_on, with_item}
 use Rattle.lr_world.specs.World.{world_with}

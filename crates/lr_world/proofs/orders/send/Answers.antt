@@ -6,13 +6,15 @@ use Rattle.lr_world.proofs.OrderLaws.{count_told, never_full, none_told, result_
 use Rattle.lr_world.proofs.orders.send.Goals as goal
 
 pub count_of-requires : goal.count_of-requires
-count_of-requires c =
-    (_, count_told _ _
-    (c.in-Ok.ensures.answer (act_of c.args.order.now) c.in_ok-request.ensures
-    ∙ result_is c.args.server.now c.args.moment c.args.client c.client_caller.result
-    c.subscription_connection-connection.result c.args.order.now c.requires.first
-    c.requires.in_time c.requires.early c.client_caller.ensures
-    c.subscription_connection-connection.ensures))
+count_of-requires c = (
+  _,
+  count_told _ _
+      (c.in-Ok.ensures.answer (act_of c.args.order.now) c.in_ok-request.ensures
+      ∙ result_is c.args.server.now c.args.moment c.args.client c.client_caller.result
+      c.subscription_connection-connection.result c.args.order.now c.requires.first
+      c.requires.in_time c.requires.early c.client_caller.ensures
+      c.subscription_connection-connection.ensures),
+)
 
 pub returns-in-Ok-clause-sent : goal.returns-in-Ok-clause-sent
 returns-in-Ok-clause-sent c =

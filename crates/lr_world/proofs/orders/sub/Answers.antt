@@ -1,12 +1,10 @@
-use Rattle.std.proofs.Common.{◌≡◌, ℕ, Bool, ◌∷◌, [], Some, None, if◌then◌else◌, sym, ap, ◌∙◌}
+use Rattle.std.proofs.Common.{◌≡◌, Bool, ◌∷◌, [], Some, if◌then◌else◌, sym, ap, ◌∙◌}
 use Rattle.lr_model.specs.History.{entry_of}
-use Rattle.lr_waiting.specs.declared.latch.Order.{Order}
-use Rattle.lr_waiting.specs.Client.{Client}
 use Rattle.lr_waiting.specs.Session.{order_taken}
 use Rattle.lr_machine.specs.Clients.{client_caller, subscription_connection}
 use Rattle.lr_machine.specs.World.{World, act_of, next_order, next_step, with_cut, with_entry}
 use Rattle.lr_server.specs.Server.{ServerValue, with_entry as with_entry_of}
-use Rattle.lr_world.specs.Steps.{heard_on, with_order}
+use Rattle.lr_world.specs.Steps.{heard_on}
 use Rattle.lr_world.specs.World.{world_with}
 use Rattle.lr_world.proofs.OrderLaws.{none-sent, room-sent}
 use Rattle.lr_world.proofs.orders.sub.Goals as goal

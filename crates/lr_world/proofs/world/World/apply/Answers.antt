@@ -1,11 +1,14 @@
-use Rattle.std.proofs.Common.{◌≡◌, ◌+◌, ◌++◌, Result, Ok, Err, OnErr, refl, ap, ◌∙◌, arith}
+use Rattle.std.proofs.Common.{◌+◌, ◌++◌, refl, ap, ◌∙◌, arith}
 use Rattle.lr_model.specs.History.{deeds_of}
 use Rattle.lr_machine.specs.Deeds.{deeds_of_event}
 use Rattle.lr_machine.specs.Shown.{shown}
 use Rattle.lr_machine.specs.World.{World, next}
 use Rattle.lr_machine_laws.proofs.Growth.{deeds_of-next}
 use Rattle.lr_machine_laws.proofs.Schedules.{IsSound-from_order}
+use Rattle.lr_machine_wakeups.proofs.Schedules.{none_lost}
+use Rattle.lr_machine_wakeups.proofs.Worlds.{kept-next}
 use Rattle.lr_world.specs.World.{IsWorld, WorldValue, world_of, world_with}
+use Rattle.lr_world.proofs.Servers.{on_err}
 use Rattle.lr_world.proofs.WorldLaws.{IsWorld-next, IsWorld-same, few_entries, value_with}
 use Rattle.lr_world.proofs.world.World.apply.Goals as goal
 
@@ -25,10 +28,6 @@ err_world c =
 pub invariant_of-self : goal.invariant_of-self
 invariant_of-self c = err_world c
 
-on_err : {T E P : Type 0} (result : Result T E) → P → OnErr result P
-on_err (Ok value) holds = tt
-on_err (Err error) holds = holds
-
 pub returns-in_err-shown-clause-err : goal.returns-in_err-shown-clause-err
 returns-in_err-shown-clause-err c =
     on_err c.from_residual.result (c.in_err-shown.ensures.err ∙ ap world_of c.self.view_is)
@@ -40,7 +39,7 @@ returns-in_err-shown-clause-sound c =
 
 pub returns-in_err-shown-clause-awake : goal.returns-in_err-shown-clause-awake
 returns-in_err-shown-clause-awake c =
-    c.no_wakeup_is_lost_where_the_facts_hold.ensures c.self.inside.applied
+    none_lost c.self.inside.applied
     (world_with c.run.new.server.entries c.run.new.moment c.run.new.clients) (err_world c).facts
 
 -- where it took place
@@ -55,7 +54,7 @@ ok_world c =
     c.self.inside.applied)
     (value_with c.run.new.server.entries c.run.new.moment c.run.new.clients
     (c.self.inside.applied + 1))
-    c.args.event.now c.an_event_keeps_the_facts.ensures c.requires.within c.self.invariant
+    c.args.event.now kept-next c.requires.within c.self.invariant
     (omega (arith, c.requires.room, ap (λ (v : WorldValue). v.applied) c.self.view_is))
     done.last done.next done.early refl
 
@@ -88,7 +87,7 @@ returns-clause-once c =
 
 pub returns-clause-awake : goal.returns-clause-awake
 returns-clause-awake c =
-    c.no_wakeup_is_lost_where_the_facts_hold.ensures (c.self.inside.applied + 1)
+    none_lost (c.self.inside.applied + 1)
     (world_with c.run.new.server.entries c.run.new.moment c.run.new.clients) (ok_world c).facts
 
 pub returns-clause-few : goal.returns-clause-few
