@@ -6,4 +6,4 @@ mod Posts
 mod Answers
 mod Entries
 mod Worlds
-mod Schedules
+pub mod Schedules
