@@ -33,6 +33,11 @@ all() {
     refused 'begin 1 1 once lock_try a! 5'
     refused 'begin 1 1 once lock_try a'
     refused 'begin 65 1 once lock_try a 5'
+    refused 'begin 1 1 later lock_try a 5'
+    refused 'begin 1 1 long lock_unlock a 5'
+    refused 'wake 1'
+    refused 'push 65'
+    refused 'show 1'
     refused "$(long_line)"
     refused 'tick 05'
     refused ''

@@ -3,9 +3,8 @@
 
     checks/made_schedule.py SEED LINES [MOMENT]
 
-Its clock goes on from the moment. The stored runs of crates/lockd, crates/lockd_bad_line and crates/lockd_too_many have
-the schedules of 2,000 lines with the seeds 7, 8 and 9; before the first stand the stories of examples/, and it goes on
-from moment 100,000.
+Its clock goes on from the moment. The stored runs of crates/lockd_bad_line and crates/lockd_too_many have the schedules of
+2,000 lines with the seeds 8 and 9.
 """
 
 import sys

@@ -5,10 +5,10 @@ use Rattle.lr_outside.specs.Turns.{CountsFaults, Rose}
 use Rattle.lr_outside.proofs.Faults.{CountsFaults-rose}
 use Rattle.lr_outside.specs.declared.status.Status.{Status}
 use Rattle.lr_outside.specs.declared.status.Status.TheVariants.{Done, Usage, ReadFault, WriteFault, BadLine, NoMemory, TooMany, Wrong, Closed}
-use Rattle.lr_steps.specs.declared.event.Event.{Event}
-use Rattle.lr_steps.specs.declared.schedule_line.ScheduleLine.{ScheduleLine}
-use Rattle.lr_steps.specs.declared.schedule_line.ScheduleLine.TheVariants as kinds
-use Rattle.lr_steps.specs.Transcript.{AreLinesOf, IsLine, bad_line, too_many_line}
+use Rattle.lr_machine.specs.declared.event.Event.{Event}
+use Rattle.lr_machine.specs.declared.schedule_line.ScheduleLine.{ScheduleLine}
+use Rattle.lr_machine.specs.declared.schedule_line.ScheduleLine.TheVariants as kinds
+use Rattle.lr_machine.specs.Transcript.{AreLinesOf, IsLine, bad_line, too_many_line}
 use Rattle.lr_schedule.proofs.EventLaws.{one_kind}
 use Rattle.lr_play.specs.Ends.{StoppedAt, EndsSo, IsEndOfRun, IsEndOfPlay, is_read_fault, is_write_fault}
 use Rattle.lr_play.proofs.Events.{AreLinesOf-at}

@@ -1,13 +1,15 @@
 -- Lines that are the texts of events, and what these show.
-use Rattle.std.proofs.Common.{◌≡◌, ℕ, suc, ◌+◌, List, [], ◌∷◌, ◌++◌, length, refl, sym, ap, ◌∙◌, subst, arith, append_assoc, append-nil}
+use Rattle.std.proofs.Common.{◌≡◌, ℕ, suc, ◌+◌, ◌≤◌, List, [], ◌∷◌, ◌++◌, length, refl, sym, ap, ◌∙◌, subst, arith, append_assoc, append-nil}
 use Rattle.std.specs.List.{AllByRecursion}
-use Rattle.lr_steps.specs.declared.event.Event.{Event}
-use Rattle.lr_steps.specs.declared.event.Event.TheVariants.{Begin, Ask, Exec, Take, Tick, Force}
-use Rattle.lr_steps.specs.declared.schedule_line.ScheduleLine.TheVariants as kinds
-use Rattle.lr_steps.specs.EventText.{IsEvent}
-use Rattle.lr_steps.specs.Within.{IsWithin, MayBegin}
-use Rattle.lr_steps.specs.Transcript.{IsLine, AreLinesOf, transcript, shown_line}
-use Rattle.lr_steps.specs.World.{World, shown, next, world_after}
+use Rattle.lr_limits.specs.Limits.{event_limit}
+use Rattle.lr_machine.specs.declared.event.Event.{Event}
+use Rattle.lr_machine.specs.declared.event.Event.TheVariants.{Begin}
+use Rattle.lr_machine.specs.declared.schedule_line.ScheduleLine.TheVariants as kinds
+use Rattle.lr_machine.specs.EventText.{IsEvent}
+use Rattle.lr_machine.specs.Within.{IsWithin, MayBegin}
+use Rattle.lr_machine.specs.Transcript.{IsLine, AreLinesOf, transcript, shown_line}
+use Rattle.lr_machine.specs.Shown.{shown}
+use Rattle.lr_machine.specs.World.{World, next, world_after}
 
 -- an event more behind some events
 pub AreLinesOf-push : (k number : ℕ) (lines : List (List ℕ)) (events : List Event) (line : List ℕ) (event : Event) → number ≡ length lines + k
@@ -23,6 +25,16 @@ AreLinesOf-length k [] [] are = refl
 AreLinesOf-length k [] (x ∷ events) are = absurd are
 AreLinesOf-length k (l ∷ lines) [] are = absurd are
 AreLinesOf-length k (l ∷ lines) (x ∷ events) are = ap (λ n. suc n) (AreLinesOf-length (k + 1) lines events are.1)
+
+-- their numbers end at the limit
+pub AreLinesOf-few : (k : ℕ) (lines : List (List ℕ)) (events : List Event) → k ≤ event_limit + 1 → AreLinesOf k lines events → k + length events ≤ event_limit + 1
+AreLinesOf-few k [] [] few are = omega (arith, few)
+AreLinesOf-few k [] (x ∷ events) few are = absurd are
+AreLinesOf-few k (l ∷ lines) [] few are = absurd are
+AreLinesOf-few k (l ∷ lines) (x ∷ events) few are =
+    let limit = are.0.3 in
+    let rest = AreLinesOf-few (k + 1) lines events (omega (arith, limit)) are.1 in
+    omega (arith, rest)
 
 -- the events of lines are within the limits
 pub AreLinesOf-within : (k : ℕ) (lines : List (List ℕ)) (events : List Event) → AreLinesOf k lines events → AllByRecursion IsWithin events
@@ -59,8 +71,4 @@ transcript-push world k (x ∷ events) event =
 -- what a schedule says may begin
 pub event_begins : (event : Event) → IsEvent event → MayBegin event
 event_begins (Begin c t mode want) is = is.1
-event_begins (Ask c t) is = tt
-event_begins (Exec c t) is = tt
-event_begins (Take c t) is = tt
-event_begins (Tick moment) is = tt
-event_begins (Force name) is = tt
+event_begins _ is = tt

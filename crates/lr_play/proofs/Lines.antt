@@ -8,11 +8,11 @@ use Rattle.lr_limits.specs.Limits.{line_limit}
 use Rattle.lr_outside.specs.declared.line_reader.LineTurn.TheVariants.{Line, End, TooLong, Fault}
 use Rattle.lr_outside.specs.declared.status.Status.{Status}
 use Rattle.lr_outside.specs.declared.status.Status.TheVariants as statuses
-use Rattle.lr_steps.specs.declared.event.Event.{Event}
-use Rattle.lr_steps.specs.declared.schedule_line.ScheduleLine.{ScheduleLine}
-use Rattle.lr_steps.specs.declared.schedule_line.ScheduleLine.TheVariants as kinds
-use Rattle.lr_steps.specs.Transcript.{IsLine, bad_line, too_many_line}
-use Rattle.lr_steps.specs.World.{World}
+use Rattle.lr_machine.specs.declared.event.Event.{Event}
+use Rattle.lr_machine.specs.declared.schedule_line.ScheduleLine.{ScheduleLine}
+use Rattle.lr_machine.specs.declared.schedule_line.ScheduleLine.TheVariants as kinds
+use Rattle.lr_machine.specs.Transcript.{IsLine, bad_line, too_many_line}
+use Rattle.lr_machine.specs.World.{World}
 use Rattle.lr_play.specs.Progress.{Progress, IsAt, Ends, text_of, world_after_line, Told}
 use Rattle.lr_play.proofs.Progress.{Shows, stopped, in_part, ran_through, broke_off, goes_on, was_read}
 

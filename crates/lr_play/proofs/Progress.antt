@@ -2,19 +2,28 @@
 use Rattle.std.proofs.Common.{◌≡◌, ◌⊎◌, inl, inr, ⊎_elim, ℕ, ◌+◌, List, [], ◌∷◌, ◌++◌, length, refl, sym, ap, ◌∙◌, subst, arith, append_assoc, append-nil}
 use Rattle.std.proofs.lemmas.List.{length-append}
 use Rattle.lr_outside.specs.Lines.{lines_of, HasNoLineEnd, IsFirstLine}
-use Rattle.lr_steps.specs.declared.event.Event.{Event}
-use Rattle.lr_steps.specs.declared.schedule_line.ScheduleLine.{ScheduleLine}
-use Rattle.lr_steps.specs.declared.schedule_line.ScheduleLine.TheVariants as kinds
-use Rattle.lr_steps.specs.Transcript.{IsLine, AreLinesOf, shown_line, bad_line, too_many_line}
-use Rattle.lr_steps.specs.World.{World, first_world, world_after, shown, next}
-use Rattle.lr_laws.proofs.Schedules.{goes_well_throughout}
+use Rattle.lr_machine.specs.declared.event.Event.{Event}
+use Rattle.lr_machine.specs.declared.schedule_line.ScheduleLine.{ScheduleLine}
+use Rattle.lr_machine.specs.declared.schedule_line.ScheduleLine.TheVariants as kinds
+use Rattle.lr_machine.specs.Transcript.{IsLine, AreLinesOf, shown_line, bad_line, too_many_line}
+use Rattle.lr_machine.specs.Shown.{shown}
+use Rattle.lr_machine.specs.World.{World, first_world, world_after, next}
+use Rattle.lr_machine_laws.proofs.Schedules.{goes_well_throughout}
+use Rattle.lr_machine_wakeups.proofs.Schedules.{none_lost_throughout}
 use Rattle.lr_play.specs.Ends.{lines_with_ends, shown_of, IsRun, RanThrough, StoppedAt, BrokeOff, WereRead, ShowsEvents, ShowsRefusal, WrittenInPart}
 use Rattle.lr_play.specs.Progress.{Progress, text_of}
-use Rattle.lr_play.proofs.Events.{AreLinesOf-push, AreLinesOf-length, AreLinesOf-within, world_after-push, transcript-push}
+use Rattle.lr_play.proofs.Events.{AreLinesOf-push, AreLinesOf-length, AreLinesOf-few, AreLinesOf-within, world_after-push, transcript-push}
 
 -- lines that are those of events make a run
 pub is_run : (lines : List (List ℕ)) (events : List Event) → AreLinesOf 1 lines events → IsRun lines events
-is_run lines events are = record { texts = are; well = goes_well_throughout events (AreLinesOf-within 1 lines events are) }
+is_run lines events are =
+    let within = AreLinesOf-within 1 lines events are in
+    let few = AreLinesOf-few 1 lines events (omega arith) are in
+    record {
+      texts = are;
+      well = goes_well_throughout events within;
+      awake = none_lost_throughout events within (omega (arith, few));
+    }
 
 lines_with_ends-append : (xs ys : List (List ℕ)) → lines_with_ends (xs ++ ys) ≡ lines_with_ends xs ++ lines_with_ends ys
 lines_with_ends-append [] ys = refl

@@ -3,12 +3,13 @@ use Rattle.std.specs.Prelude.{◌≡◌, ◌⊎◌, ℕ, ◌+◌, Bool, true, fa
 use Rattle.lr_outside.specs.Lines.{lines_of, HasNoLineEnd}
 use Rattle.lr_outside.specs.declared.status.Status.{Status}
 use Rattle.lr_outside.specs.declared.status.Status.TheVariants.{Done, Usage, ReadFault, WriteFault, BadLine, NoMemory, TooMany, Wrong, Closed}
-use Rattle.lr_steps.specs.declared.event.Event.{Event}
-use Rattle.lr_steps.specs.declared.schedule_line.ScheduleLine.{ScheduleLine}
-use Rattle.lr_steps.specs.declared.schedule_line.ScheduleLine.TheVariants as kinds
-use Rattle.lr_steps.specs.Sound.{GoesWellThroughout}
-use Rattle.lr_steps.specs.Transcript.{IsLine, AreLinesOf, transcript, bad_line, too_many_line}
-use Rattle.lr_steps.specs.World.{first_world}
+use Rattle.lr_machine.specs.declared.event.Event.{Event}
+use Rattle.lr_machine.specs.declared.schedule_line.ScheduleLine.{ScheduleLine}
+use Rattle.lr_machine.specs.declared.schedule_line.ScheduleLine.TheVariants as kinds
+use Rattle.lr_machine.specs.Sound.{GoesWellThroughout}
+use Rattle.lr_machine.specs.Transcript.{IsLine, AreLinesOf, transcript, bad_line, too_many_line}
+use Rattle.lr_machine.specs.World.{first_world}
+use Rattle.lr_machine_wakeups.specs.Throughout.{NoWakeupIsLost, Throughout}
 
 -- the command has the one word `play`
 abbrev pub IsPlay : List (List ℕ) → Type 0
@@ -22,10 +23,12 @@ lines_with_ends lines = flat_map (λ line. line ++ 10 ∷ []) lines
 abbrev pub shown_of : List Event → List ℕ
 shown_of events = transcript first_world 1 events
 
--- the lines are the texts of the events of the run, and it went well after each of them
+-- The lines are the texts of the events of the run. After each of them it went well, and no wakeup
+-- was lost.
 pub record IsRun (lines : List (List ℕ)) (events : List Event) : Type 0 where
   pub texts : AreLinesOf 1 lines events
   pub well : GoesWellThroughout events
+  pub awake : Throughout (λ n world. NoWakeupIsLost world) events
 
 -- The whole schedule was read, each line of it is an event, and all that they show was written.
 pub record RanThrough (all rest before held : List ℕ) : Type 0 where

@@ -5,11 +5,12 @@ use Rattle.lr_outside.specs.Lines.{lines_of, ahead}
 use Rattle.lr_outside.specs.Turns.{AppendsFront}
 use Rattle.lr_outside.specs.declared.status.Status.{Status}
 use Rattle.lr_outside.specs.declared.status.Status.TheVariants.{WriteFault, BadLine, NoMemory, TooMany}
-use Rattle.lr_steps.specs.declared.event.Event.{Event}
-use Rattle.lr_steps.specs.declared.schedule_line.ScheduleLine.{ScheduleLine}
-use Rattle.lr_steps.specs.declared.schedule_line.ScheduleLine.TheVariants as kinds
-use Rattle.lr_steps.specs.Transcript.{AreLinesOf, shown_line, bad_line, too_many_line}
-use Rattle.lr_steps.specs.World.{World, first_world, world_after, shown, next}
+use Rattle.lr_machine.specs.declared.event.Event.{Event}
+use Rattle.lr_machine.specs.declared.schedule_line.ScheduleLine.{ScheduleLine}
+use Rattle.lr_machine.specs.declared.schedule_line.ScheduleLine.TheVariants as kinds
+use Rattle.lr_machine.specs.Transcript.{AreLinesOf, shown_line, bad_line, too_many_line}
+use Rattle.lr_machine.specs.Shown.{shown}
+use Rattle.lr_machine.specs.World.{World, first_world, world_after, next}
 use Rattle.lr_play.specs.Ends.{lines_with_ends, shown_of, EndsSo}
 
 -- Some lines were taken from all bytes, each is an event, the world is the one to which they lead, and what they show was

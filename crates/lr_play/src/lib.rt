@@ -5,5 +5,7 @@ mod run;
 #[cfg(test)]
 mod tests;
 mod top;
+#[cfg(test)]
+mod waiting_tests;
 
 pub use top::play_top;

@@ -2,16 +2,16 @@
 ghost use Rattle.std.specs.Prelude.{◌≡◌, ◌<◌, ◌≤◌, ◌+◌, List, ℕ, IfSome, IfNone, Some, None, true, false};
 ghost use Rattle.lr_limits.specs.Limits.{event_limit};
 ghost use Rattle.lr_outside.specs.Turns.{CountsFaults};
-ghost use Rattle.lr_steps.specs.declared.schedule_line.ScheduleLine.TheVariants as kinds;
-ghost use Rattle.lr_steps.specs.Within.{IsWithin, MayBegin};
-ghost use Rattle.lr_steps.specs.World.{first_world, next};
+ghost use Rattle.lr_machine.specs.declared.schedule_line.ScheduleLine.TheVariants as kinds;
+ghost use Rattle.lr_machine.specs.Within.{IsWithin, MayBegin};
+ghost use Rattle.lr_machine.specs.World.{first_world, next};
 ghost use Rattle.lr_world.specs.World.{world_of};
 ghost use Rattle.lr_play.specs.Ends.{WhereTold, EndsSo, IsEndOfRun, is_read_fault, is_write_fault};
 ghost use Rattle.lr_play.specs.Progress.{IsAt, Ends, Told, ToldAnyhow};
 
+use lr_machine::{Event, ScheduleLine};
 use lr_outside::{LineReader, LineTurn, Sink, Source, Status, write_whole};
 use lr_schedule::{read_line, write_bad, write_shown, write_too_many};
-use lr_steps::{Event, ScheduleLine};
 use lr_text::Text;
 use lr_world::World;
 use std::alloc::Global;

@@ -95,11 +95,15 @@ const RUNS: [Run; 11] = [
 ];
 
 // A step of a story: one line and what is shown of it, or the four lines of a whole request of a
-// client's first thread, with what its call shows and the reply that is taken.
+// client's first thread, with what its call shows and the reply that is taken; or the lines with which
+// a thread of client 2 falls asleep, since its call finds the lock a busy for so many milliseconds.
+// `Park` is the first such thread, for which the client subscribes, and `Join` a further one.
 #[derive(Clone, Copy)]
-enum Step {
+pub(crate) enum Step {
     Line(&'static str, &'static str),
     Do(u32, &'static str, &'static str, &'static str),
+    Park(u32, &'static str, u32),
+    Join(u32, &'static str, u32),
 }
 
 const LOCKS: [Step; 24] = [
@@ -247,15 +251,15 @@ const LATCHES: [Step; 5] = [
 
 // A schedule and the transcript that is wanted of it.
 #[derive(Drop)]
-struct Script {
+pub(crate) struct Script {
     alloc: Global,
-    input: Vec<u8>,
-    wanted: Vec<u8>,
+    pub(crate) input: Vec<u8>,
+    pub(crate) wanted: Vec<u8>,
     lines: u32,
 }
 
 impl Script {
-    fn new(alloc: Global) -> Self {
+    pub(crate) fn new(alloc: Global) -> Self {
         Script {
             alloc,
             input: Vec::new(alloc),
@@ -292,11 +296,65 @@ impl Script {
         self.line(take.as_str(), done.as_str())
     }
 
+    // A thread of client 2 begins a request that waits, and its call is refused.
+    fn refused(
+        &mut self,
+        thread: u32,
+        call: &str,
+        millis: u32,
+        taken: &str,
+    ) -> Result<(), AllocError> {
+        let begin = format!(in self.alloc; "begin 2 {thread} 60000 {call}")?;
+        self.line(begin.as_str(), "fresh")?;
+        self.asks(thread, millis, taken)
+    }
+
+    // Its call is sent and answered, and it takes the reply.
+    fn asks(&mut self, thread: u32, millis: u32, taken: &str) -> Result<(), AllocError> {
+        let ask = format!(in self.alloc; "ask 2 {thread}")?;
+        let exec = format!(in self.alloc; "exec 2 {thread}")?;
+        let busy = format!(in self.alloc; "busy {millis}")?;
+        let take = format!(in self.alloc; "take 2 {thread}")?;
+        self.line(ask.as_str(), "asked")?;
+        self.line(exec.as_str(), busy.as_str())?;
+        self.line(take.as_str(), taken)
+    }
+
+    // It asks once more, now that its client hears the channel, and falls asleep.
+    fn sleeps(&mut self, thread: u32, millis: u32) -> Result<(), AllocError> {
+        let refused = format!(in self.alloc; "refused {millis}")?;
+        let check = format!(in self.alloc; "check 2 {thread}")?;
+        let asleep = format!(in self.alloc; "asleep {millis}")?;
+        self.asks(thread, millis, refused.as_str())?;
+        self.line(check.as_str(), asleep.as_str())
+    }
+
+    fn park(&mut self, thread: u32, call: &str, millis: u32) -> Result<(), AllocError> {
+        self.refused(thread, call, millis, "joining")?;
+        self.line("sub 2", "subscribe ch:lock:a 1")?;
+        self.line("push 2", "ack ch:lock:a 1")?;
+        self.sleeps(thread, millis)
+    }
+
+    fn join(&mut self, thread: u32, call: &str, millis: u32) -> Result<(), AllocError> {
+        self.refused(thread, call, millis, "ready")?;
+        self.sleeps(thread, millis)
+    }
+
     fn step(&mut self, step: Step) -> Result<(), AllocError> {
         match step {
             Step::Line(text, shown) => self.line(text, shown),
             Step::Do(client, call, shown, taken) => self.request(client, call, shown, taken),
+            Step::Park(thread, call, millis) => self.park(thread, call, millis),
+            Step::Join(thread, call, millis) => self.join(thread, call, millis),
         }
+    }
+
+    pub(crate) fn steps(&mut self, steps: &[Step]) -> Result<(), AllocError> {
+        for step in steps {
+            self.step(*step)?;
+        }
+        Ok(())
     }
 }
 
@@ -318,11 +376,9 @@ fn ends_so(alloc: Global, run: Run) -> Result<bool, AllocError> {
 }
 
 // Whether a story shows what it should.
-fn is_shown(alloc: Global, steps: &[Step]) -> Result<bool, AllocError> {
+pub(crate) fn is_shown(alloc: Global, steps: &[Step]) -> Result<bool, AllocError> {
     let mut script = Script::new(alloc);
-    for step in steps {
-        script.step(*step)?;
-    }
+    script.steps(steps)?;
     let words = words(alloc, &["play"])?;
     let pieces = [script.input.as_slice()];
     let mut source = MemSource::new(&pieces, &[]);

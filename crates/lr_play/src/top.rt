@@ -2,10 +2,11 @@ ghost use Rattle.std.specs.Prelude.{◌≡◌, ◌⊎◌, ◌↔◌, List, ℕ, 
 ghost use Rattle.std.specs.List.{AllByRecursion};
 ghost use Rattle.lr_outside.specs.Lines.{lines_of};
 ghost use Rattle.lr_outside.specs.Turns.{CountsFaults, Rose};
-ghost use Rattle.lr_steps.specs.declared.event.Event.{Event};
-ghost use Rattle.lr_steps.specs.Sound.{GoesWell};
-ghost use Rattle.lr_steps.specs.Transcript.{AreLinesOf};
-ghost use Rattle.lr_steps.specs.Within.{IsWithin};
+ghost use Rattle.lr_machine.specs.declared.event.Event.{Event};
+ghost use Rattle.lr_machine.specs.Sound.{GoesWell};
+ghost use Rattle.lr_machine.specs.Transcript.{AreLinesOf};
+ghost use Rattle.lr_machine.specs.Within.{IsWithin};
+ghost use Rattle.lr_machine_wakeups.specs.Throughout.{NoWakeupIsLost, ThroughoutEverySchedule};
 ghost use Rattle.lr_play.specs.Ends.{WhereTold, EndsSo, IsPlay, IsEndOfPlay, is_read_fault, is_write_fault};
 
 use crate::run::run;
@@ -24,6 +25,12 @@ use std::alloc::Global;
 /// their texts are the lines, and after each of them the history is legal, holds each caller's calls
 /// once and in order, no two claims that conflict are held at once, and what is promised of the
 /// replies of each kind of object is so. Want of memory may end a run at any line.
+///
+/// No wakeup is lost either: after each of the events one of these stands for each thread asleep on a
+/// lock whose channel wakes one. A message of the channel is in flight to its client, a permit of the
+/// client's latch is unused, a thread that is registered there is awake, or the timer of one comes no
+/// later than the peak of the lock, the latest deadline that a holder got since the last message. No
+/// fairness and no waiting time is claimed, nor that the event comes that wakes the thread.
 pub fn play_top<S: Source, K: Sink>(
     alloc: Global,
     words: &[Text],
@@ -58,6 +65,10 @@ pub fn play_top<S: Source, K: Sink>(
     // order, no two claims that conflict are held at once, and what is promised of the replies of
     // each kind of object is so.
     ensures every_event { (events : List Event) → AllByRecursion IsWithin events → GoesWell events }
+
+    // And no wakeup is lost: what stands for a thread that sleeps, on a channel where a message wakes
+    // one, is never nothing, and no timer that is later than the peak of its lock.
+    ensures awake { ThroughoutEverySchedule (λ n world. NoWakeupIsLost world) }
 {
     if !is_play(words) {
         return Status::Usage;

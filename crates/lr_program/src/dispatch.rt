@@ -2,8 +2,8 @@
 ghost use Rattle.std.specs.Prelude.{◌≡◌, ◌⊎◌, ◌↔◌, List, ℕ, Some};
 ghost use Rattle.lr_outside.specs.Lines.{lines_of};
 ghost use Rattle.lr_outside.specs.Turns.{CountsFaults, Rose};
-ghost use Rattle.lr_steps.specs.declared.event.Event.{Event};
-ghost use Rattle.lr_steps.specs.Transcript.{AreLinesOf};
+ghost use Rattle.lr_machine.specs.declared.event.Event.{Event};
+ghost use Rattle.lr_machine.specs.Transcript.{AreLinesOf};
 ghost use Rattle.lr_play.specs.Ends.{WhereTold, EndsSo, IsPlay, IsEndOfPlay, is_read_fault, is_write_fault};
 ghost use Rattle.lr_program.specs.Commands.{IsHelp, IsVersion, AreNoCommand, IsShown};
 

@@ -1,6 +1,6 @@
 use Rattle.std.proofs.Common.{◌≡◌, ℕ, List, [], Option, Some, refl, arith, ap, ◌∙◌, subst, sym}
 use Rattle.lr_outside.specs.Lines.{ahead}
-use Rattle.lr_steps.specs.World.{first_world}
+use Rattle.lr_machine.specs.World.{first_world}
 use Rattle.lr_world.specs.World.{WorldValue, world_of}
 use Rattle.lr_play.specs.Progress.{IsAt, Progress}
 use Rattle.lr_play.proofs.Progress.{start, nothing_written}
@@ -32,3 +32,16 @@ pub returns-in-Some-clause-ends : goal.returns-in-Some-clause-ends
 returns-in-Some-clause-ends g c = λ all before left held.
     let e = c.in-Some.ensures.ends all before (c.loop-status.invariant.at all before left held) in
     (e.rest, e.text, e.rest_is, e.text_is, e.so)
+
+pub loop-status-preserved : goal.loop-status-preserved
+loop-status-preserved g c =
+    let before_it = c.loop-status.invariant in
+    let after_it = c.in_default-take_line.ensures in
+    record {
+      free = after_it.free;
+      place = omega (arith, after_it.place, before_it.place);
+      limit = omega (arith, after_it.limit);
+      read = after_it.read_on ∙ before_it.read;
+      written = after_it.write_on ∙ before_it.written;
+      at = λ all before left held. after_it.goes_on all before (before_it.at all before left held);
+    }

@@ -1,7 +1,7 @@
 use Rattle.std.proofs.Common.{◌≡◌, ℕ, ◌+◌, List, refl, subst, sym}
-use Rattle.lr_steps.specs.declared.schedule_line.ScheduleLine.TheVariants as kinds
-use Rattle.lr_steps.specs.Transcript.{IsLine}
-use Rattle.lr_steps.specs.World.{World, next}
+use Rattle.lr_machine.specs.declared.schedule_line.ScheduleLine.TheVariants as kinds
+use Rattle.lr_machine.specs.Transcript.{IsLine}
+use Rattle.lr_machine.specs.World.{World, next}
 use Rattle.lr_world.specs.World.{world_of}
 use Rattle.lr_play.specs.Progress.{IsAt, Told}
 use Rattle.lr_play.proofs.Lines.{on, at_end, at_fault, at_line, at_long}

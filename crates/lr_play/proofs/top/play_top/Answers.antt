@@ -1,4 +1,5 @@
-use Rattle.lr_laws.proofs.Schedules.{goes_well}
+use Rattle.lr_machine_laws.proofs.Schedules.{goes_well}
+use Rattle.lr_machine_wakeups.proofs.Schedules.{none_lost_throughout}
 use Rattle.lr_play.proofs.Progress.{nothing_written}
 use Rattle.lr_play.proofs.Ends.{completes, end_of_play}
 use Rattle.lr_play.proofs.top.play_top.Goals as goal
@@ -11,6 +12,15 @@ returns-in-Ok-clause-every_event g c = goes_well
 
 pub returns-in-Err-clause-every_event : goal.returns-in-Err-clause-every_event
 returns-in-Err-clause-every_event g c = goes_well
+
+pub returns-then-not-is_play-clause-awake : goal.returns-then-not-is_play-clause-awake
+returns-then-not-is_play-clause-awake g c = none_lost_throughout
+
+pub returns-in-Ok-clause-awake : goal.returns-in-Ok-clause-awake
+returns-in-Ok-clause-awake g c = none_lost_throughout
+
+pub returns-in-Err-clause-awake : goal.returns-in-Err-clause-awake
+returns-in-Err-clause-awake g c = none_lost_throughout
 
 pub returns-in-Ok-clause-complete : goal.returns-in-Ok-clause-complete
 returns-in-Ok-clause-complete g c = λ all before events words left held are no_read no_write.
