@@ -7,6 +7,8 @@ mod clients;
 mod items;
 mod replies;
 mod stands;
+#[cfg(test)]
+mod tests;
 mod threads;
 
 pub use clients::ClientTable;

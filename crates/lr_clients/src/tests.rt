@@ -1,0 +1,137 @@
+ghost use Rattle.std.specs.Prelude.{◌≡◌, Some};
+ghost use Rattle.lr_machine.specs.Within.{IsWithin, MayBegin};
+ghost use Rattle.lr_clients.specs.Rows.{client_alone};
+
+use crate::ClientTable;
+use lr_machine::{Event, Found, Shown, ThreadId};
+use lr_names::Name;
+use lr_objects::{Function, Lease, LockFunction, Mode, Reply, Want};
+use lr_waiting::{Asking, Phase};
+use std::alloc::{AllocError, Global};
+use std::test::Fail;
+use uuid::Uuid;
+
+// Thread 1 of client 1 begins a request for a lock.
+fn begin(name: &Name) -> Event
+    ensures alone { client_alone result ≡ Some 1 }
+    ensures within { IsWithin result }
+    ensures begins { MayBegin result }
+{
+    Event::Begin {
+        client: 1,
+        thread: 1,
+        mode: Mode::Long,
+        want: Want {
+            function: Function::Lock(LockFunction::Try),
+            name: *name,
+            lease: Lease::For(1_000),
+            number: 0,
+            id: Uuid::nil(),
+        },
+    }
+}
+
+// Whether a step of client 1 finds its thread in a phase in which it doesn't apply.
+fn finds(clients: &mut ClientTable, event: &Event, phase: Phase) -> bool
+    requires alone { client_alone event.now ≡ Some 1 }
+    requires within { IsWithin event.now }
+    requires begins { MayBegin event.now }
+{
+    match clients.step(1, 90, event) {
+        Ok(Shown::No(Found::Phase(found))) => found == phase,
+        _ => false,
+    }
+}
+
+// Whether thread 1 begins, and is fresh then.
+fn begins(clients: &mut ClientTable, name: &Name) -> bool {
+    matches!(clients.step(1, 90, &begin(name)), Ok(Shown::Fresh))
+        && finds(clients, &begin(name), Phase::Fresh)
+}
+
+fn asked(clients: &ClientTable) -> Option<Asking> {
+    clients.asked(ThreadId {
+        client: 1,
+        thread: 1,
+    })
+}
+
+fn answer(clients: &mut ClientTable, reply: Reply) {
+    let id = ThreadId {
+        client: 1,
+        thread: 1,
+    };
+    clients.answer(id, reply);
+}
+
+// Whether its call is there once it is sent, and no longer.
+fn asks(clients: &mut ClientTable) -> bool {
+    let ask = Event::Ask {
+        client: 1,
+        thread: 1,
+    };
+    asked(clients).is_none()
+        && matches!(clients.step(1, 90, &ask), Ok(Shown::Asked))
+        && matches!(asked(clients), Some(asking) if asking.at == 90)
+        && finds(clients, &ask, Phase::Asked)
+}
+
+// Whether its call is there no longer once it is answered, and it takes the reply once.
+fn takes(clients: &mut ClientTable) -> bool {
+    let take = Event::Take {
+        client: 1,
+        thread: 1,
+    };
+    answer(clients, Reply::Granted);
+    asked(clients).is_none()
+        && matches!(clients.step(1, 95, &take), Ok(Shown::Done(Reply::Granted)))
+        && finds(clients, &take, Phase::Idle)
+}
+
+// Whether each step of a thread that waits for an answer shows that its client was cut off.
+fn refuses_calls(clients: &mut ClientTable, name: &Name) -> bool {
+    let (client, thread) = (1, 1);
+    finds(clients, &begin(name), Phase::Cut)
+        && finds(clients, &Event::Ask { client, thread }, Phase::Cut)
+        && finds(clients, &Event::Take { client, thread }, Phase::Cut)
+}
+
+// Whether each step of a thread that sleeps shows that its client was cut off.
+fn refuses_sleep(clients: &mut ClientTable) -> bool {
+    let (client, thread) = (1, 1);
+    finds(clients, &Event::Check { client, thread }, Phase::Cut)
+        && finds(clients, &Event::Wake { client, thread }, Phase::Cut)
+        && finds(clients, &Event::Fire { client, thread }, Phase::Cut)
+        && finds(clients, &Event::Quit { client, thread }, Phase::Cut)
+}
+
+// Whether a client that is cut off while its thread waits for an answer loses the call and the
+// reply, and refuses every step. The client beside it goes on.
+fn is_cut_off(clients: &mut ClientTable, name: &Name) -> bool {
+    let begun = begins(clients, name) && asks(clients);
+    clients.cut(1);
+    begun
+        && asked(clients).is_none()
+        && refuses_calls(clients, name)
+        && refuses_sleep(clients)
+        && clients.is_cut(1)
+        && !clients.is_cut(2)
+}
+
+fn threads_ask(alloc: Global, name: &Name) -> Result<bool, AllocError> {
+    let mut clients = ClientTable::new(alloc)?;
+    Ok(begins(&mut clients, name) && asks(&mut clients) && takes(&mut clients))
+}
+
+fn clients_are_cut_off(alloc: Global, name: &Name) -> Result<bool, AllocError> {
+    let mut clients = ClientTable::new(alloc)?;
+    Ok(is_cut_off(&mut clients, name))
+}
+
+#[test]
+fn clients_step(rt: HostRuntime) -> Result<(), Fail> {
+    let name = Name::parse(b"a")?;
+    assert!(rt; threads_ask(rt.alloc(), &name)?);
+    assert!(rt; clients_are_cut_off(rt.alloc(), &name)?);
+    Ok(())
+}
