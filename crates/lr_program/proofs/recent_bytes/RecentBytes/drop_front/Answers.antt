@@ -1,5 +1,5 @@
 -- what is moved to the front
-use Rattle.std.proofs.Common.{◌≡◌, ◌≤◌, ◌-◌, ap, ◌∙◌, sym, take, drop, arith, rules, length, vec_len, length-take}
+use Rattle.std.proofs.Common.{◌≡◌, ◌≤◌, ◌-◌, ap, ◌∙◌, take, drop, arith, rules, length, length-take}
 use Rattle.lr_program.specs.Recent.{Recent}
 use Rattle.lr_program.proofs.RecentLaws.{front_moved}
 use Rattle.lr_program.proofs.recent_bytes.RecentBytes.drop_front.Goals as goal

@@ -1,6 +1,6 @@
 -- the piece that is found is the line
-use Rattle.std.proofs.Common.{◌≡◌, ◌∙◌, ◌≤◌, ◌<◌, ℕ, ◌-◌, List, ap, inr, arith, length, slice_get}
-use Rattle.std.specs.Prelude.{Option, Some}
+use Rattle.std.proofs.Common.{◌≡◌, ◌∙◌, ◌<◌, ℕ, ◌-◌, List, ap, inr, arith, slice_get}
+use Rattle.std.specs.Prelude.{Some}
 use Rattle.std.specs.Option.{option_copied}
 use Rattle.lr_program.specs.Recent.{Recent, pieces_of}
 use Rattle.lr_program.proofs.RecentLaws.{IsRecentOf-line, found_in, past_end}
