@@ -198,6 +198,37 @@ const ALL_PHASES: [Step; 11] = [
 // After how many of these steps it is idle, fresh, asked, answered, joining, ready, refused and asleep.
 const PHASES: [usize; 8] = [1, 2, 3, 4, 5, 7, 10, 11];
 
+// Two locks are held, and a thread of client 2 sleeps until the first is free.
+const SLEEPER: [Step; 3] = [
+    Step::Do(1, "lock_try b 30000", "granted", "granted"),
+    Step::Do(1, "lock_try a 30000", "granted", "granted"),
+    Step::Park(1, "lock_try a 30000", 30_000),
+];
+
+// A message is sent to client 2, and the lock is held again.
+const MESSAGE: [Step; 2] = [
+    Step::Line("force a", "freed post ch:lock:a 1"),
+    Step::Do(1, "lock_try a 30000", "granted", "granted"),
+];
+
+// One message more, for which there is no room.
+const ONE_MESSAGE_MORE: [Step; 3] = [
+    Step::Line("force a", "freed post ch:lock:a 0 cut 2"),
+    Step::Line("show", "none"),
+    Step::Line("push 2", "no cut"),
+];
+
+// An order, and there is no room for what it would be answered.
+const ONE_ORDER_MORE: [Step; 7] = [
+    Step::Line("begin 2 2 long lock_try b 5", "fresh"),
+    Step::Line("ask 2 2", "asked"),
+    Step::Line("exec 2 2", "busy 30000"),
+    Step::Line("take 2 2", "joining"),
+    Step::Line("sub 2", "subscribe ch:lock:b 0 cut 2"),
+    Step::Line("show", "none"),
+    Step::Line("push 2", "no cut"),
+];
+
 // Whether an entry closes this connection.
 fn closes(entry: &Entry, conn: u32) -> bool {
     entry.conn == conn && matches!(entry.act, Act::Close)
@@ -215,11 +246,8 @@ fn ends_with_closes(world: &World) -> bool {
     }
 }
 
-// Whether client 2 is cut off whole after these steps.
-fn is_cut_after(alloc: Global, steps: &[Step]) -> Result<bool, AllocError> {
-    let mut script = Script::new(alloc);
-    script.steps(steps)?;
-    script.steps(&CUT_OFF)?;
+// Whether this schedule shows what it should, and client 2 is cut off last.
+fn cuts_off(alloc: Global, script: &Script) -> Result<bool, AllocError> {
     let pieces = [script.input.as_slice()];
     let mut source = MemSource::new(&pieces, &[]);
     let mut sink = MemSink::new(alloc, &[]);
@@ -227,6 +255,25 @@ fn is_cut_after(alloc: Global, steps: &[Step]) -> Result<bool, AllocError> {
     let status = run(alloc, &mut world, &mut source, &mut sink);
     let is_shown = status == Status::Done && sink.bytes() == script.wanted.as_slice();
     Ok(is_shown && ends_with_closes(&world))
+}
+
+// Whether client 2 is cut off whole after these steps.
+fn is_cut_after(alloc: Global, steps: &[Step]) -> Result<bool, AllocError> {
+    let mut script = Script::new(alloc);
+    script.steps(steps)?;
+    script.steps(&CUT_OFF)?;
+    cuts_off(alloc, &script)
+}
+
+// Whether client 2, which has read none of 16,384 messages, is cut off by these steps.
+fn is_cut_by(alloc: Global, steps: &[Step]) -> Result<bool, AllocError> {
+    let mut script = Script::new(alloc);
+    script.steps(&SLEEPER)?;
+    for _ in 0..16_384 {
+        script.steps(&MESSAGE)?;
+    }
+    script.steps(steps)?;
+    cuts_off(alloc, &script)
 }
 
 #[test]
@@ -276,5 +323,12 @@ fn a_client_is_cut_in_each_phase(rt: HostRuntime) -> Result<(), Fail> {
     for count in PHASES {
         assert!(rt; is_cut_after(rt.alloc(), &ALL_PHASES[..count])?);
     }
+    Ok(())
+}
+
+#[test]
+fn a_client_that_does_not_read_is_cut_off(rt: HostRuntime) -> Result<(), Fail> {
+    assert!(rt; is_cut_by(rt.alloc(), &ONE_MESSAGE_MORE)?);
+    assert!(rt; is_cut_by(rt.alloc(), &ONE_ORDER_MORE)?);
     Ok(())
 }
