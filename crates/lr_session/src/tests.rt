@@ -89,6 +89,8 @@ fn share(session: &mut SessionState, channel: Channel, name: &Name) -> bool {
         && session.next_order().is_none()
         && hears(session, channel, 2)
         && sleeps(session, 1)
+        && due(session, 499, &[])
+        && due(session, 500, &[1])
         && sleeps(session, 2)
 }
 
