@@ -20,7 +20,8 @@ use Rattle.lr_model.specs.Permits.{PermitLease, is_under, lease_under, live_leas
 use Rattle.lr_model.proofs.ReadWriteFacts.{none_some, some_one}
 use Rattle.lr_expirable.specs.Leases.{AreLeasesAt, in_order_of, members_entry, members_of}
 use Rattle.lr_expirable.specs.Step.{HasLive, IsFirstGone, live_members}
-use Rattle.lr_expirable.proofs.EntryLaws.{changed-here, if_ok, member-removed, member-written, members_in, succeeds}
+use Rattle.lr_keys.proofs.SortedKeyLaws.{changed-here, if_ok, member-removed, member-written, succeeds}
+use Rattle.lr_expirable.proofs.EntryLaws.{members_in}
 use Rattle.lr_expirable.proofs.LeaseLaws.{deadline_in, in_order-with, in_order-without, leases-filter, leases-with, length-in_order, live-all, live-in_order, score_of-in_order}
 
 module _ (entry : Option KeyEntry) (leases : List PermitLease) (at : AreLeasesAt entry leases) where

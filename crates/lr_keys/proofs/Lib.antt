@@ -9,3 +9,4 @@ pub mod NextLemmas
 pub mod OrderLemmas
 pub mod SlotLemmas
 pub mod TableLaws
+pub mod SortedKeyLaws

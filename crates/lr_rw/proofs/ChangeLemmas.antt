@@ -1,5 +1,5 @@
 -- What the calls of a key space make of the two keys of a lock.
-use Rattle.std.proofs.Common.{◌≡◌, ◌≢◌, ◌≤◌, ◌<◌, ℕ, suc, ℤ, pos, negsuc, ◌+ℤ◌, Bool, true, false, List, [], ◌∷◌, length, nat_lt, Option, Some, None, option_map, IsTrue, Result, Ok, Err, IfOk, OnOk, IfSome, if◌then◌else◌, refl, sym, ap, ◌∙◌, subst, arith}
+use Rattle.std.proofs.Common.{◌≡◌, ◌≢◌, ◌≤◌, ◌<◌, ℕ, suc, ℤ, pos, negsuc, ◌+ℤ◌, Bool, true, false, List, [], ◌∷◌, length, nat_lt, Option, Some, None, option_map, IsTrue, Result, Ok, Err, IfOk, OnOk, if◌then◌else◌, refl, sym, ap, ◌∙◌, subst, arith}
 use Rattle.std.specs.Option.{ok_or}
 use Rattle.std.specs.Result.{result_unwrap_or}
 use Rattle.std.specs.Str.{bytes_eq}
@@ -10,17 +10,17 @@ use Rattle.lr_limits.specs.Limits.{hold_limit, member_limit}
 use Rattle.lr_names.specs.Owner.{ThreadOfClient, IsOwner}
 use Rattle.lr_objects.specs.declared.access.Access.{Access}
 use Rattle.lr_lists.specs.Places.{item_at}
-use Rattle.lr_sorted.specs.Members.{Scored, Members as Scores, comes_before, score_of, inserted, with_score, without_member}
-use Rattle.lr_sorted.proofs.MemberLaws.{eq-same, length-without_member}
+use Rattle.lr_sorted.specs.Members.{Scored, Members as Scores, score_of}
 use Rattle.lr_sorted.proofs.SortedLaws.{length-sorted}
 use Rattle.lr_keys.specs.declared.fault.KeyFault.{KeyFault}
-use Rattle.lr_keys.specs.declared.fault.KeyFault.TheVariants.{WrongKind, Overflow, TooMany, NoMemory}
+use Rattle.lr_keys.specs.declared.fault.KeyFault.TheVariants.{Overflow, TooMany, NoMemory}
 use Rattle.lr_keys.specs.declared.value_kind.ValueKind.{ValueKind}
 use Rattle.lr_keys.specs.declared.value_kind.ValueKind.TheVariants.{Hash, Zset}
 use Rattle.lr_keys.specs.FieldMap.{Pairs, field_value, with_field, without_field, sum_of, is_i64}
-use Rattle.lr_keys.specs.KeySpace.{Answers, ChangesEntry, is_plan_for, number_after_increment, Content, Fields, Items, Members, Number, KeyEntry, Keys, Plan, IsPrepared, UsesPlan, WritesField, WritesMember, count_at, entry_at, plan_at, entry_with_value, entry_with_field, entry_with_member, entry_without_field, entry_without_member, field_at, field_after_increment, found_in, has_field, has_member, hash_at, is_new_member, is_new_score, is_there, score_at, seen, zset_at}
+use Rattle.lr_keys.specs.KeySpace.{Answers, ChangesEntry, is_plan_for, number_after_increment, Fields, Members, KeyEntry, Keys, Plan, IsPrepared, UsesPlan, WritesField, WritesMember, entry_at, plan_at, entry_with_value, entry_with_field, entry_with_member, entry_without_field, entry_without_member, field_at, field_after_increment, found_in, has_field, has_member, hash_at, is_new_member, is_new_score, is_there, score_at, seen, zset_at}
 use Rattle.lr_keys.specs.Table.{without_key_if}
-use Rattle.lr_keys.proofs.TableLaws.{with_key-same, with_key-other}
+use Rattle.lr_keys.proofs.SortedKeyLaws.{changed-here, changed-other, if_ok, member-removed, member-written, succeeds}
+use Rattle.lr_keys.proofs.TableLaws.{with_key-other}
 use Rattle.lr_model.specs.declared.read_write_hold.ReadWriteHold.{ReadWriteHold}
 use Rattle.lr_model.specs.ReadWrite.{ReadWriteLock, hold_of, with_hold, without_hold, last_deadline}
 use Rattle.lr_model.specs.ReadWriteHolds.{IsReadWriteLock}
@@ -34,23 +34,6 @@ use Rattle.lr_rw.proofs.LookLemmas.{field_at-hold, members_in, score_at-hold}
 use Rattle.lr_rw.proofs.ValueLaws.{lookup-hold, insert-hold, remove-hold}
 
 -- ---- looks
-
--- what stands first has a score
-pub first-there : (entry : Option KeyEntry)
-    → IfSome (result_unwrap_or (seen (item_at (pos 0)) (zset_at entry)) None)
-    (λ (first : Scored). (score : ℕ) × (score_at first.0 entry ≡ Ok (Some score)))
-first-there entry = by (zset_at entry) refl
-  where
-    by : (found : Result Scores KeyFault) → zset_at entry ≡ found
-        → IfSome (result_unwrap_or (seen (item_at (pos 0)) found) None)
-        (λ (first : Scored). (score : ℕ) × (score_at first.0 entry ≡ Ok (Some score)))
-    by (Err fault) is = tt
-    by (Ok []) is = tt
-    by (Ok (m ∷ ms)) is = (
-      m.1,
-      ap (seen (score_of m.0)) is
-          ∙ ap (λ b. Ok (if b then Some m.1 else score_of m.0 ms)) (eq-same m.0),
-    )
 
 module _ (keys : Keys) (counts deadlines : List ℕ) (lock : ReadWriteLock)
     (at : IsLockAt keys counts deadlines lock) where
@@ -90,22 +73,6 @@ module _ (keys : Keys) (counts deadlines : List ℕ) (lock : ReadWriteLock)
       ap (λ r. result_unwrap_or r 0) (looks length)
       ∙ length-sorted (with_values deadline_in lock) ∙ length-values deadline_in lock
 
--- ---- answers
-
--- a call that succeeds, by the definition and for want of nothing else
-pub succeeds : {T U : Type 0} (show : T → U) (result : Result T KeyFault) (answer : Result U KeyFault)
-    (v : U) → Answers show result answer → answer ≡ Ok v → result ≢ Err NoMemory
-    → (r : T) × (result ≡ Ok r) × (show r ≡ v)
-succeeds show (Ok r) answer v answers is memory = (r, refl, cc)
-succeeds show (Err NoMemory) answer v answers is memory = absurd (memory refl)
-succeeds show (Err WrongKind) answer v answers is memory = absurd (cc)
-succeeds show (Err Overflow) answer v answers is memory = absurd (cc)
-succeeds show (Err TooMany) answer v answers is memory = absurd (cc)
-
-pub if_ok : {T : Type 0} (P : T → Type 0) (result : Result T KeyFault) (r : T) → result ≡ Ok r
-    → IfOk result P → P r
-if_ok {T} P result r is holds = subst (λ (x : Result T KeyFault). IfOk x P) is holds
-
 -- ---- entries
 
 -- the fields of a hash, none where it is absent
@@ -123,75 +90,14 @@ field-written field number (p ∷ ps) =
     (λ l. Some (record { value = Fields l; expiry = None }) ≡ entry_with_value (Fields l) None)
     (λ here. refl) (λ there. refl)
 
--- a member is put, or is the first
-inserted-some : (e : Scored) (ms : Scores)
-    → Some (record { value = Members (inserted e ms); expiry = None })
-    ≡ entry_with_value (Members (inserted e ms)) None
-inserted-some e [] = refl
-inserted-some e (m ∷ ms) =
-    cond_both (comes_before e m) (e ∷ m ∷ ms) (m ∷ inserted e ms)
-    (λ l. Some (record { value = Members l; expiry = None }) ≡ entry_with_value (Members l) None)
-    (λ here. refl) (λ there. refl)
-
-member-written : (member : List ℕ) (score : ℕ) (members : Scores)
-    → Some (entry_with_member member score (entry_with_value (Members members) None))
-    ≡ entry_with_value (Members (with_score member score members)) None
-member-written member score [] = refl
-member-written member score (m ∷ ms) =
-    inserted-some (member, score) (without_member member (m ∷ ms))
-
--- a field or a member goes, and with the last one the key
+-- a field goes, and with the last one the key
 field-removed : (field : List ℕ) (pairs : Pairs)
     → entry_without_field field (entry_with_value (Fields pairs) None)
     ≡ entry_with_value (Fields (without_field field pairs)) None
 field-removed field [] = refl
 field-removed field (p ∷ ps) = refl
 
-member-removed : (member : List ℕ) (members : Scores)
-    → entry_without_member member (entry_with_value (Members members) None)
-    ≡ entry_with_value (Members (without_member member members)) None
-member-removed member [] = refl
-member-removed member (m ∷ ms) = refl
-
--- a sorted set that loses a member has fewer
-pub member-fewer : (member : List ℕ) (entry : Option KeyEntry) (score : ℕ)
-    → score_at member entry ≡ Ok (Some score)
-    → count_at (entry_without_member member entry) < count_at entry
-member-fewer member None score is = absurd (cc)
-member-fewer member (Some e) score is = by e.value is
-  where
-    left : (ms : Scores) (n : ℕ) → suc (length (without_member member ms)) ≡ n
-        → count_at (entry_with_value (Members (without_member member ms)) e.expiry) < n
-    left ms n e2 = go (without_member member ms) e2
-      where
-        go : (rest : Scores) → suc (length rest) ≡ n
-            → count_at (entry_with_value (Members rest) e.expiry) < n
-        go [] h = omega (arith, h)
-        go (r ∷ rs) h = omega (arith, h)
-
-    by : (value : Content) → seen (score_of member) (zset_at (Some (record e { value = value })))
-        ≡ Ok (Some score)
-        → count_at (entry_without_member member (Some (record e { value = value })))
-        < count_at (Some (record e { value = value }))
-    by (Members ms) is =
-        left ms (length ms) (length-without_member member ms score (cc))
-    by (Fields pairs) is = absurd (cc)
-    by (Items items) is = absurd (cc)
-    by (Number n) is = absurd (cc)
-
 -- ---- one key changes, and not another
-
-pub changed-here : (old new : Keys) (key : List ℕ) (change : Option KeyEntry → Option KeyEntry)
-    → ChangesEntry old new key change → entry_at new key ≡ change (entry_at old key)
-changed-here old new key change changes =
-    ap (λ (f : List ℕ → Option KeyEntry). f key) changes
-    ∙ with_key-same key (change (entry_at old key)) (entry_at old)
-
-changed-other : (old new : Keys) (key q : List ℕ) (change : Option KeyEntry → Option KeyEntry)
-    → ChangesEntry old new key change → key ≢ q → entry_at new q ≡ entry_at old q
-changed-other old new key q change changes apart =
-    ap (λ (f : List ℕ → Option KeyEntry). f q) changes
-    ∙ with_key-other key (change (entry_at old key)) (entry_at old) q apart
 
 plan-other : (old new : Keys) (was_there : Bool) (key q : List ℕ) (kind : ValueKind)
     (member : List ℕ) → UsesPlan old new was_there key kind member → key ≢ q

@@ -1,7 +1,7 @@
 use Rattle.std.proofs.Common.{◌<◌, sym, ap, ◌∙◌, subst}
 use Rattle.lr_keys.specs.KeySpace.{count_at, entry_at, entry_without_member, found_in}
 use Rattle.lr_expirable.proofs.ChangeLemmas.{first-dropped}
-use Rattle.lr_expirable.proofs.EntryLaws.{changed-here, member-fewer}
+use Rattle.lr_keys.proofs.SortedKeyLaws.{changed-here, member-fewer}
 use Rattle.lr_expirable.proofs.expired.drop_first.Goals as goal
 
 pub returns-clause-dropped : goal.returns-clause-dropped

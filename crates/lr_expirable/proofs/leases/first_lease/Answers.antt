@@ -3,7 +3,7 @@ use Rattle.std.specs.Result.{result_unwrap_or}
 use Rattle.lr_sorted.specs.Members.{Scored}
 use Rattle.lr_keys.specs.KeySpace.{entry_at, score_at}
 use Rattle.lr_expirable.proofs.ChangeLemmas.{first-seen}
-use Rattle.lr_expirable.proofs.EntryLaws.{first-there}
+use Rattle.lr_keys.proofs.SortedKeyLaws.{first-there}
 use Rattle.lr_expirable.proofs.leases.first_lease.Goals as goal
 
 pub returns-clause-first : goal.returns-clause-first

@@ -2,7 +2,7 @@ use Rattle.std.proofs.Common.{◌≡◌, Option, Some, IfSome, Ok, ℕ, None, sy
 use Rattle.std.specs.Result.{result_unwrap_or}
 use Rattle.lr_sorted.specs.Members.{Scored}
 use Rattle.lr_keys.specs.KeySpace.{entry_at, score_at}
-use Rattle.lr_rw.proofs.ChangeLemmas.{first-there}
+use Rattle.lr_keys.proofs.SortedKeyLaws.{first-there}
 use Rattle.lr_rw.proofs.holds.first_hold.Goals as goal
 
 pub returns-clause-there : goal.returns-clause-there

@@ -1,6 +1,7 @@
 use Rattle.std.proofs.Common.{◌<◌, sym, ap, ◌∙◌, subst}
 use Rattle.lr_keys.specs.KeySpace.{count_at, entry_at, entry_without_field, entry_without_member, found_in}
-use Rattle.lr_rw.proofs.ChangeLemmas.{changed-here, member-fewer, removed, removed-other}
+use Rattle.lr_keys.proofs.SortedKeyLaws.{changed-here, member-fewer}
+use Rattle.lr_rw.proofs.ChangeLemmas.{removed, removed-other}
 use Rattle.lr_rw.proofs.holds.remove.Goals as goal
 
 pub returns-clause-removed : goal.returns-clause-removed
