@@ -3,6 +3,7 @@ use Rattle.std.specs.Prelude.{ℕ, ◌+◌, ◌==◌, nat_lt, min, List, [], ◌
 use Rattle.std.specs.List.{list_any}
 use Rattle.lr_limits.specs.Limits.{thread_limit, watchdog_lease}
 use Rattle.lr_names.specs.Channel.{ChannelOf, channel_wakes}
+use Rattle.lr_names.specs.Owner.{ThreadOfClient}
 use Rattle.lr_names.specs.declared.kind.Wakes.{Wakes}
 use Rattle.lr_names.specs.declared.kind.Wakes.TheVariants.{One, All}
 use Rattle.lr_names.specs.declared.post.Due.{Due}
@@ -12,14 +13,16 @@ use Rattle.lr_names.specs.declared.post.Push.TheVariants.{Message}
 use Rattle.lr_objects.specs.Reply.{blocks}
 use Rattle.lr_objects.specs.Want.{op_of}
 use Rattle.lr_objects.specs.declared.kinds.Function.{Function}
+use Rattle.lr_objects.specs.declared.op.Op.{Op}
 use Rattle.lr_objects.specs.declared.reply.Reply.{Reply}
+use Rattle.lr_objects.specs.declared.want.Want.{Want}
 use Rattle.lr_waiting.specs.declared.stand.Stand.{Stand}
 use Rattle.lr_waiting.specs.declared.stand.Stand.TheVariants as stands
 use Rattle.lr_waiting.specs.declared.waiter.Refusal.{Refusal}
 use Rattle.lr_waiting.specs.declared.waiter.Stage.{Stage}
 use Rattle.lr_waiting.specs.declared.waiter.Stage.TheVariants.{Asked, Ready, Refused, Asleep}
 use Rattle.lr_waiting.specs.declared.waiter.Waiter.{Waiter}
-use Rattle.lr_model.specs.Answer.{reply_of}
+use Rattle.lr_model.specs.Answer.{Objects, reply_of}
 use Rattle.lr_model.specs.Board.{same_channel, numbers_below}
 use Rattle.lr_waiting.specs.Client.{Client, waiter_in}
 use Rattle.lr_model.specs.History.{State}
@@ -115,13 +118,20 @@ stand_of_one channel outbox client =
     else if list_any (is_awake channel client) (threads_with (λ thread. true)) then stands.Awake
     else timer_or_nobody (least_due channel client)
 
--- whether a request would be refused now: its call gets the lease of a watchdog, if one at all
+-- the call by which it is told whether a request would be refused: it gets the lease of a watchdog,
+-- if one at all
+abbrev pub op_tried : ThreadOfClient → Want → Op
+op_tried owner want = op_of want owner watchdog_lease false
+
+-- whether a request would be refused at a moment
+abbrev pub is_refused : Objects → ℕ → ThreadOfClient → Want → Bool
+is_refused objects moment owner want =
+    blocks (reply_of objects moment (op_tried owner want)) want.function
+
+-- whether it would be refused now
 abbrev pub would_wait : State → ℕ → Client → ℕ → Waiter → Bool
 would_wait state now client thread waiter =
-    blocks
-    (reply_of state.objects now
-    (op_of waiter.want (owner_in client.session thread) watchdog_lease false))
-    waiter.want.function
+    is_refused state.objects now (owner_in client.session thread) waiter.want
 
 -- where a message wakes all: the first of these that is there
 abbrev pub stand_of_all : State → ℕ → List Push → Client → ℕ → Waiter → Refusal → Stand

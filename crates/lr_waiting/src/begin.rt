@@ -1,7 +1,10 @@
 ghost use Rattle.std.specs.Prelude.{◌≡◌};
 ghost use Rattle.lr_waiting.specs.Begin.{waits};
 
-use lr_objects::{FencedFunction, Function, LockFunction};
+use lr_objects::{
+    CountdownFunction, FencedFunction, Function, LockFunction, PermitFunction, ReadWriteFunction,
+    SemaphoreFunction,
+};
 
 /// Whether a request for the function may wait.
 pub fn waits(function: Function) -> bool
@@ -9,6 +12,11 @@ pub fn waits(function: Function) -> bool
 {
     matches!(
         function,
-        Function::Lock(LockFunction::Try) | Function::Fenced(FencedFunction::Try)
+        Function::Lock(LockFunction::Try)
+            | Function::Fenced(FencedFunction::Try)
+            | Function::ReadWrite(ReadWriteFunction::Read | ReadWriteFunction::Write)
+            | Function::Semaphore(SemaphoreFunction::Try)
+            | Function::Permits(PermitFunction::Try)
+            | Function::Countdown(CountdownFunction::Count)
     )
 }
