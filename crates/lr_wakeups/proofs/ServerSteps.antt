@@ -335,14 +335,19 @@ module _ (n : ℕ) (present : Present) (client : Client) (connection : Connectio
           }
           by true e All f = record {
             noted = λ inside.
-                omega
-                (arith, reached.noted inside,
-                heard_here t within (channel_in client.session t waiter) (there inside) e f);
+                omega (
+                  arith,
+                  reached.noted inside,
+                  heard_here t within (channel_in client.session t waiter) (there inside) e f,
+                );
             waits = λ inside all blocked silent now.
                 absurd
-                (omega
-                (arith, reached.noted inside, now,
-                heard_here t within (channel_in client.session t waiter) (there inside) e f));
+                (omega (
+                  arith,
+                  reached.noted inside,
+                  now,
+                  heard_here t within (channel_in client.session t waiter) (there inside) e f,
+                ));
           }
 
   -- an order to subscribe was acknowledged
