@@ -9,9 +9,10 @@ again and again: each time a message is sent, and taken by the client of those w
     message   the permit is given, and the message is taken; nobody wakes
     waking    so it is, and each who sleeps is woken, asks, finds the permits too few, and falls asleep once more
 
-The cost of a message is that of five events. The cost of a waking is that of the five events with which one thread wakes and
-falls asleep: what is left of a round when its message is taken away, divided by how many sleep. Each is the processor time of a whole schedule
-less that of the falling asleep alone, each the shortest of several runs. The runs take turns.
+The cost of a message is that of its five events. The cost of a waking is that of the five events with which one thread wakes
+and falls asleep: what is left of a round without its message, divided by how many sleep. What messages and rounds take is the
+processor time of a whole schedule less that of the falling asleep alone, each the shortest of several runs. The runs take
+turns.
 """
 
 import argparse
@@ -58,7 +59,7 @@ def waking(many):
 
 
 def schedules(many, times):
-    """The falling asleep alone, then with so many messages, then with so many wakings, and the rounds of the last."""
+    """The falling asleep alone, with so many messages, and with so many wakings, and how many rounds the last has."""
     asleep = falling_asleep(many)
     rounds = times // many
     return asleep, asleep + message() * times, asleep + (message() + waking(many)) * rounds, rounds
