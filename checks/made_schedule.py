@@ -4,7 +4,7 @@
     checks/made_schedule.py SEED LINES [MOMENT]
 
 Its clock goes on from the moment. The stored runs of crates/lockd_bad_line and crates/lockd_too_many have the schedules of
-2,000 lines with the seeds 8 and 9, and that of crates/lockd_stories has one with the seed 7 behind its stories.
+2,000 lines with the seeds 8 and 9, and that of crates/lockd_stories has one with the seed 7 among its stories.
 """
 
 import sys

@@ -1,6 +1,8 @@
 //! `lockd play`: a schedule of events from the bytes that are read to the bytes that are written.
 #![tactic(auto)]
 
+#[cfg(test)]
+mod broadcast_tests;
 mod run;
 #[cfg(test)]
 mod tests;

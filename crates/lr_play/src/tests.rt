@@ -96,14 +96,23 @@ const RUNS: [Run; 11] = [
 
 // A step of a story: one line and what is shown of it, or the four lines of a whole request of a
 // client's first thread, with what its call shows and the reply that is taken; or the lines with which
-// a thread of client 2 falls asleep, since its call finds the lock a busy for so many milliseconds.
-// `Park` is the first such thread, for which the client subscribes, and `Join` a further one.
+// a thread of client 2 falls asleep. `Park` is the first such thread, for which the client subscribes,
+// and `Join` a further one.
 #[derive(Clone, Copy)]
 pub(crate) enum Step {
     Line(&'static str, &'static str),
     Do(u32, &'static str, &'static str, &'static str),
-    Park(u32, &'static str, u32),
-    Join(u32, &'static str, u32),
+    Park(u32, Wait),
+    Join(u32, Wait),
+}
+
+// A call that is refused, the channel on which its thread waits, and until when it sleeps.
+#[derive(Clone, Copy)]
+pub(crate) struct Wait {
+    pub(crate) call: &'static str,
+    pub(crate) channel: &'static str,
+    pub(crate) refusal: &'static str,
+    pub(crate) until: &'static str,
 }
 
 const LOCKS: [Step; 24] = [
@@ -278,7 +287,7 @@ impl Script {
         Ok(())
     }
 
-    fn request(
+    pub(crate) fn request(
         &mut self,
         client: u32,
         call: &str,
@@ -297,56 +306,54 @@ impl Script {
     }
 
     // A thread of client 2 begins a request that waits, and its call is refused.
-    fn refused(
-        &mut self,
-        thread: u32,
-        call: &str,
-        millis: u32,
-        taken: &str,
-    ) -> Result<(), AllocError> {
+    fn refused(&mut self, thread: u32, wait: Wait, taken: &str) -> Result<(), AllocError> {
+        let call = wait.call;
         let begin = format!(in self.alloc; "begin 2 {thread} 60000 {call}")?;
         self.line(begin.as_str(), "fresh")?;
-        self.asks(thread, millis, taken)
+        self.asks(thread, wait, taken)
     }
 
     // Its call is sent and answered, and it takes the reply.
-    fn asks(&mut self, thread: u32, millis: u32, taken: &str) -> Result<(), AllocError> {
+    fn asks(&mut self, thread: u32, wait: Wait, taken: &str) -> Result<(), AllocError> {
         let ask = format!(in self.alloc; "ask 2 {thread}")?;
         let exec = format!(in self.alloc; "exec 2 {thread}")?;
-        let busy = format!(in self.alloc; "busy {millis}")?;
         let take = format!(in self.alloc; "take 2 {thread}")?;
         self.line(ask.as_str(), "asked")?;
-        self.line(exec.as_str(), busy.as_str())?;
+        self.line(exec.as_str(), wait.refusal)?;
         self.line(take.as_str(), taken)
     }
 
     // It asks once more, now that its client hears the channel, and falls asleep.
-    fn sleeps(&mut self, thread: u32, millis: u32) -> Result<(), AllocError> {
-        let refused = format!(in self.alloc; "refused {millis}")?;
+    fn sleeps(&mut self, thread: u32, wait: Wait) -> Result<(), AllocError> {
+        let until = wait.until;
+        let refused = format!(in self.alloc; "refused {until}")?;
         let check = format!(in self.alloc; "check 2 {thread}")?;
-        let asleep = format!(in self.alloc; "asleep {millis}")?;
-        self.asks(thread, millis, refused.as_str())?;
+        let asleep = format!(in self.alloc; "asleep {until}")?;
+        self.asks(thread, wait, refused.as_str())?;
         self.line(check.as_str(), asleep.as_str())
     }
 
-    fn park(&mut self, thread: u32, call: &str, millis: u32) -> Result<(), AllocError> {
-        self.refused(thread, call, millis, "joining")?;
-        self.line("sub 2", "subscribe ch:lock:a 1")?;
-        self.line("push 2", "ack ch:lock:a 1")?;
-        self.sleeps(thread, millis)
+    fn park(&mut self, thread: u32, wait: Wait) -> Result<(), AllocError> {
+        let channel = wait.channel;
+        let subscribed = format!(in self.alloc; "subscribe {channel} 1")?;
+        let heard = format!(in self.alloc; "ack {channel} 1")?;
+        self.refused(thread, wait, "joining")?;
+        self.line("sub 2", subscribed.as_str())?;
+        self.line("push 2", heard.as_str())?;
+        self.sleeps(thread, wait)
     }
 
-    fn join(&mut self, thread: u32, call: &str, millis: u32) -> Result<(), AllocError> {
-        self.refused(thread, call, millis, "ready")?;
-        self.sleeps(thread, millis)
+    fn join(&mut self, thread: u32, wait: Wait) -> Result<(), AllocError> {
+        self.refused(thread, wait, "ready")?;
+        self.sleeps(thread, wait)
     }
 
     fn step(&mut self, step: Step) -> Result<(), AllocError> {
         match step {
             Step::Line(text, shown) => self.line(text, shown),
             Step::Do(client, call, shown, taken) => self.request(client, call, shown, taken),
-            Step::Park(thread, call, millis) => self.park(thread, call, millis),
-            Step::Join(thread, call, millis) => self.join(thread, call, millis),
+            Step::Park(thread, wait) => self.park(thread, wait),
+            Step::Join(thread, wait) => self.join(thread, wait),
         }
     }
 

@@ -1,5 +1,5 @@
 use crate::run::run;
-use crate::tests::{Script, Step, is_shown};
+use crate::tests::{Script, Step, Wait, is_shown};
 use lr_model::{Act, Entry};
 use lr_outside::{MemSink, MemSource, Status};
 use lr_world::World;
@@ -33,11 +33,27 @@ const ORDINARY_PATH: [Step; 23] = [
     Step::Line("take 2 1", "done granted"),
 ];
 
+// The lock a, held for 30 seconds more.
+const LOCK: Wait = Wait {
+    call: "lock_try a 30000",
+    channel: "ch:lock:a",
+    refusal: "busy 30000",
+    until: "30000",
+};
+
+// It is wanted for half a second, and held for 90 seconds more.
+const SHORT_HOLD: Wait = Wait {
+    call: "lock_try a 500",
+    channel: "ch:lock:a",
+    refusal: "busy 90000",
+    until: "90000",
+};
+
 // A thread that gives up hands its permit on.
 const GIVES_UP: [Step; 15] = [
     Step::Do(1, "lock_try a 30000", "granted", "granted"),
-    Step::Park(1, "lock_try a 30000", 30_000),
-    Step::Join(2, "lock_try a 30000", 30_000),
+    Step::Park(1, LOCK),
+    Step::Join(2, LOCK),
     Step::Do(1, "lock_unlock a 30000", "freed post ch:lock:a 1", "freed"),
     Step::Line("push 2", "message ch:lock:a 1"),
     Step::Line("wake 2 1", "ready permit"),
@@ -55,8 +71,8 @@ const GIVES_UP: [Step; 15] = [
 // A thread that is granted the lock hands its turn on, and the other sleeps until the lease is over.
 const GRANT_THEN_EXPIRY: [Step; 22] = [
     Step::Do(1, "lock_try a 90000", "granted", "granted"),
-    Step::Park(1, "lock_try a 500", 90_000),
-    Step::Join(2, "lock_try a 500", 90_000),
+    Step::Park(1, SHORT_HOLD),
+    Step::Join(2, SHORT_HOLD),
     Step::Do(1, "lock_unlock a 30000", "freed post ch:lock:a 1", "freed"),
     Step::Line("push 2", "message ch:lock:a 1"),
     Step::Line("wake 2 2", "ready permit"),
@@ -122,7 +138,7 @@ const OLD_ACKNOWLEDGEMENT: [Step; 20] = [
 // A lock is taken away by force, and the client that slept is cut off.
 const FORCE_AND_CUT: [Step; 8] = [
     Step::Do(1, "lock_try a 30000", "granted", "granted"),
-    Step::Park(1, "lock_try a 30000", 30_000),
+    Step::Park(1, LOCK),
     Step::Line("force a", "freed post ch:lock:a 1"),
     Step::Line("force a", "not-held"),
     Step::Line("cut 2", "cut"),
@@ -202,7 +218,7 @@ const PHASES: [usize; 8] = [1, 2, 3, 4, 5, 7, 10, 11];
 const SLEEPER: [Step; 3] = [
     Step::Do(1, "lock_try b 30000", "granted", "granted"),
     Step::Do(1, "lock_try a 30000", "granted", "granted"),
-    Step::Park(1, "lock_try a 30000", 30_000),
+    Step::Park(1, LOCK),
 ];
 
 // A message is sent to client 2, and the lock is held again.
@@ -247,7 +263,7 @@ fn ends_with_closes(world: &World) -> bool {
 }
 
 // Whether this schedule shows what it should, and client 2 is cut off last.
-fn cuts_off(alloc: Global, script: &Script) -> Result<bool, AllocError> {
+pub(crate) fn cuts_off(alloc: Global, script: &Script) -> Result<bool, AllocError> {
     let pieces = [script.input.as_slice()];
     let mut source = MemSource::new(&pieces, &[]);
     let mut sink = MemSink::new(alloc, &[]);

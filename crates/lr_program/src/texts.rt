@@ -19,37 +19,42 @@ usage: lockd play|serve|shell|audit|drill|race
 A schedule has one event on each line, as words with single spaces between them:
 
   begin C T W FUNCTION NAME ..
-             thread T, 1 to 256, of client C, 1 to 64, begins a request. W says whether it waits for
-             a busy lock: once, where it doesn't; or long, or as many milliseconds as it means to
-             wait, 1 to 86400000000. Only lock_try and fenced_try wait. No clock ends their wait,
-             but quit does.
+             thread T, 1 to 256, of client C, 1 to 64, begins a request. W says whether it waits
+             where its call is refused: once, where it doesn't; or long, or as many milliseconds as
+             it means to wait, 1 to 86400000000. Those that may wait are lock_try, fenced_try,
+             rw_read, rw_write, sem_try, permit_try, and latch_count, which waits for a count of 0.
+             No clock ends their wait, but quit does.
   ask C T    its call is sent.
   exec C T   the server executes the call, now.
-  take C T   the thread takes the reply, and its request ends: done. But if it waits and the lock
-             is busy, it goes on. It is joining until its client hears the lock's channel, and ready
-             once it does; then it asks again. Where the lock is still busy it is refused: it sleeps
-             next, at most until the moment that is shown.
+  take C T   the thread takes the reply, and its request ends: done. But if it waits and the reply
+             is busy, short or a count above 0, it goes on. It is joining until its client hears the
+             object's channel, and ready once it does; then it asks again. Where the reply is such a
+             one again it is refused: it sleeps next, at most until the moment that is shown.
   tick M     the clock shows M, in milliseconds. It begins at 0, and never goes back.
   force NAME an operator takes the lock away from whoever holds it.
 
-The threads of a client that wait for the same lock share a subscription to its channel, and
-permits, each of which lets one of them ask again. A message brings a permit; so does a thread that
-ends, by quit or with its reply, while others wait.
+The threads of a client that wait for the same object share a subscription to its channel. For a
+lock or a fenced lock they share permits too, each of which lets one of them ask again. A message
+brings a permit; so does a thread that ends, by quit or with its reply, while others wait. For any
+other object a message wakes all: it counts up a number that they share, and lets each of them ask
+again that sent its call before.
 
   sub C      the server gets the oldest order of the client: subscribe, when the first thread waits,
              or unsubscribe, when the last has ended. The number of the client's channels is shown.
   push C     the client takes the oldest item that the server has sent it: ack, with the number of
              threads that are ready now that it is subscribed; unack, when it no longer is; or
-             message, with the number of permits, when the lock was given back.
-  check C T  a refused thread looks before it sleeps: it is ready where it takes a permit or its
-             moment has come, and else asleep.
-  wake C T   a sleeping thread takes a permit, and is ready.
+             message, with the permits or the number that is counted up, when the object may be free.
+  check C T  a refused thread looks before it sleeps: it is ready where it takes a permit, a message
+             for all came since it asked, or its moment has come, and else asleep.
+  wake C T   a sleeping thread takes a permit, or a message for all came since it asked: it is ready.
   fire C T   a sleeping thread's moment has come, and it is ready.
   quit C T   a thread that is joining, ready, refused or asleep gives up.
   cut C      the client's two connections are closed, and its threads end.
-  show       for each thread that sleeps, as C T, the first of these that stands for it: message
-             (one is on its way), permit (one is unused), awake (another thread is), or timer and
-             the moment at which it comes. Where none sleeps: none.
+  show       for each thread that sleeps, as C T, the first of these that stands for it. Where a
+             message wakes one: message (one is on its way), permit (one is unused), awake (another
+             thread is), or timer and the moment at which it comes. Where it wakes all: held (its
+             call would be refused now), message, broadcast (a message came since it asked), or
+             timer and its own moment. Where none sleeps: none.
 
 Where an event doesn't apply nothing changes. Its line shows no and what was found: the phase of
 the thread (idle, fresh, asked, answered, joining, ready, refused, asleep), cut, orders or pushes.
@@ -91,7 +96,8 @@ client 2 finds it busy.
   printf '%s\\n' 'begin 1 1 once lock_try a 30000' 'ask 1 1' 'exec 1 1' 'take 1 1' \\
     'begin 2 1 once lock_try a 5' 'ask 2 1' 'exec 2 1' 'take 2 1' | ./lockd play
 
-Another, in which two threads wait for a lock:
+Another, in which two threads wait for a lock, and one in which a message wakes three:
 
   ./lockd play < examples/two_shops.txt
+  ./lockd play < examples/gate_opens_for_all.txt
 ";

@@ -7,7 +7,8 @@ use lr_machine::{
 };
 use lr_names::{Channel, Due, Kind, Name};
 use lr_objects::{
-    Arguments, FencedFunction, Function, Integer, Lease, LockFunction, Mode, Remaining, Reply, Want,
+    Arguments, CountdownFunction, FencedFunction, Function, Integer, Lease, LockFunction, Mode,
+    PermitFunction, ReadWriteFunction, Remaining, Reply, SemaphoreFunction, Want,
 };
 use lr_text::Text;
 use lr_waiting::{Order, Phase, Stand, Standing};
@@ -17,7 +18,7 @@ use uuid::Uuid;
 
 const ID: &str = "00000000-0000-0000-0000-0000000000ff";
 
-const BAD_LINES: [&str; 25] = [
+const BAD_LINES: [&str; 28] = [
     "",
     "ask 1",
     "ask 1 1 ",
@@ -30,9 +31,12 @@ const BAD_LINES: [&str; 25] = [
     "begin 1 1 86400000001 lock_try a 30000",
     "begin 1 1 05 lock_try a 30000",
     "begin 1 1 Long lock_try a 30000",
-    "begin 1 1 long sem_try a 1",
-    "begin 1 1 5 sem_try a 1",
     "begin 1 1 long lock_unlock a 5",
+    "begin 1 1 long rw_unlock_read a 5",
+    "begin 1 1 long sem_release a 1",
+    "begin 1 1 5 permit_count a",
+    "begin 1 1 5 latch_down a",
+    "begin 1 1 long latch_count a 1",
     "begin 1 1 once lock_renew a 30000",
     "begin 1 1 once lock_try a watch",
     "begin 1 1 once lock_try a:b 30000",
@@ -126,8 +130,8 @@ const REASONS: [(&str, &str); 13] = [
          with no leading zeros (word 4 of ",
     ),
     (
-        "begin 1 1 long sem_try a! 1",
-        "\"long\" is no mode; with sem_try the mode is once (word 4 of ",
+        "begin 1 1 long sem_release a! 1",
+        "\"long\" is no mode; with sem_release the mode is once (word 4 of ",
     ),
     (
         "begin 65 1 once lock_try a 5",
@@ -196,6 +200,44 @@ fn requests_are_read(want: &Want) -> bool {
         && begins("begin 64 256 1 lock_try a 30000", Mode::For(1), want)
         && begins("begin 64 256 86400000000 lock_try a 30000", longest, want)
         && begins("begin 64 256 long fenced_try a 30000", Mode::Long, &fenced)
+}
+
+// Requests that may wait for an object that isn't one owner's.
+fn requests_for_all_are_read(want: &Want) -> bool {
+    let read = Want {
+        function: Function::ReadWrite(ReadWriteFunction::Read),
+        ..*want
+    };
+    let write = Want {
+        function: Function::ReadWrite(ReadWriteFunction::Write),
+        ..*want
+    };
+    begins("begin 64 256 long rw_read a 30000", Mode::Long, &read)
+        && begins("begin 64 256 5 rw_write a 30000", Mode::For(5), &write)
+        && numbers_are_waited_for(want)
+}
+
+fn numbers_are_waited_for(want: &Want) -> bool {
+    let permits = Want {
+        function: Function::Semaphore(SemaphoreFunction::Try),
+        lease: Lease::For(0),
+        number: 3,
+        ..*want
+    };
+    let permit = Want {
+        function: Function::Permits(PermitFunction::Try),
+        id: Uuid::from_u128(255),
+        ..*want
+    };
+    let latch = Want {
+        function: Function::Countdown(CountdownFunction::Count),
+        lease: Lease::For(0),
+        ..*want
+    };
+    let taken = "begin 64 256 long permit_try a 00000000-0000-0000-0000-0000000000ff 30000";
+    begins("begin 64 256 long sem_try a 3", Mode::Long, &permits)
+        && begins(taken, Mode::Long, &permit)
+        && begins("begin 64 256 long latch_count a", Mode::Long, &latch)
 }
 
 fn calls_are_read(client: u32, thread: u32) -> bool {
@@ -281,7 +323,9 @@ fn ids_are_read(name: Name, id: Uuid) -> bool {
 #[test]
 fn lines_are_read(rt: HostRuntime) -> Result<(), Fail> {
     let name = Name::parse(b"a")?;
-    let threads = requests_are_read(&want(name))
+    let tried = want(name);
+    let threads = requests_are_read(&tried)
+        && requests_for_all_are_read(&tried)
         && calls_are_read(64, 256)
         && waits_are_read(64, 256);
     let others = events_of_clients_are_read(64) && other_events_are_read(name);
