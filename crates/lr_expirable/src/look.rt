@@ -4,10 +4,9 @@ ghost use Rattle.std.specs.Prelude.{◌≡◌, ◌≤◌, ℕ, List, length, max
 ghost use Rattle.lr_keys.specs.KeySpace.{entry_at};
 ghost use Rattle.lr_model.specs.Answer.{Objects, reply_of};
 ghost use Rattle.lr_model.specs.Moment.{is_lease};
-ghost use Rattle.lr_model.specs.Permits.{PermitLease, live_leases, live_permits, try_step};
-ghost use Rattle.lr_model.specs.Permits.{Permits as PermitsOf};
+ghost use Rattle.lr_model.specs.Permits.{PermitLease, Permits, live_leases, live_permits, try_step};
 ghost use Rattle.lr_objects.specs.Reply.{blocks};
-ghost use Rattle.lr_objects.specs.declared.kinds.Function.TheVariants.{Permits};
+ghost use Rattle.lr_objects.specs.declared.kinds.Function.TheVariants as kinds;
 ghost use Rattle.lr_objects.specs.declared.permits.PermitCall.TheVariants as calls;
 ghost use Rattle.lr_objects.specs.declared.permits.PermitFunction.TheVariants as functions;
 ghost use Rattle.lr_expirable.specs.Leases.{AreLeasesAt};
@@ -36,10 +35,10 @@ fn is_full(keys: &KeySpace, key: &Brief, number: u64, moment: u64) -> bool
 
 // Whether a try under an id would have its thread wait, by the two keys.
 fn is_kept_waiting(keys: &KeySpace, permits: &PermitKeys, moment: u64, id: &Uuid) -> bool
-    ensures { let m = max keys.now.moment moment in (object : PermitsOf) (lease : ℕ)
+    ensures { let m = max keys.now.moment moment in (object : Permits) (lease : ℕ)
         → ArePermitsAt keys.now permits.now.number permits.now.leases object
         → result ≡ blocks (try_step m id.now lease (live_permits m object)).reply
-        (Permits functions.Try) }
+        (kinds.Permits functions.Try) }
 {
     let Some(number) = number_at(keys, &permits.number) else {
         return true;
@@ -57,7 +56,7 @@ pub fn would_wait(keys: &KeySpace, moment: u64, name: &Name, id: &Uuid) -> bool
     ensures { let m = max keys.now.moment moment in (objects : Objects) (lease : ℕ)
         → PermitsStand keys.now objects → IsTrue (is_lease lease)
         → result ≡ blocks (reply_of objects m (permit_op name.now (calls.Try id.now lease)))
-        (Permits functions.Try) }
+        (kinds.Permits functions.Try) }
 {
     // What the type of the name says of it.
     let _text = name.as_slice();

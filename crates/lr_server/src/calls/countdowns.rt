@@ -40,7 +40,6 @@ pub(crate) fn would_wait(keys: &KeySpace, want: &Want, function: CountdownFuncti
 {
     match function {
         CountdownFunction::Count => lr_countdown::would_wait(keys, &want.name),
-        CountdownFunction::Set => false,
-        CountdownFunction::Down => false,
+        CountdownFunction::Set | CountdownFunction::Down => false,
     }
 }

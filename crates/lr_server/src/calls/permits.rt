@@ -45,8 +45,6 @@ pub(crate) fn would_wait(
 {
     match function {
         PermitFunction::Try => lr_expirable::would_wait(keys, moment, &want.name, &want.id),
-        PermitFunction::Set => false,
-        PermitFunction::Release => false,
-        PermitFunction::Count => false,
+        PermitFunction::Set | PermitFunction::Release | PermitFunction::Count => false,
     }
 }

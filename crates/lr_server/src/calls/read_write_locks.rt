@@ -52,8 +52,7 @@ pub(crate) fn would_wait(
         ReadWriteFunction::Write => {
             lr_rw::would_wait(keys, moment, &want.name, Access::Write, owner)
         }
-        ReadWriteFunction::UnlockRead => false,
-        ReadWriteFunction::UnlockWrite => false,
-        ReadWriteFunction::Renew => false,
+        ReadWriteFunction::UnlockRead | ReadWriteFunction::UnlockWrite | ReadWriteFunction::Renew =>
+            false,
     }
 }

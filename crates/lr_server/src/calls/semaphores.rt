@@ -44,8 +44,6 @@ pub(crate) fn would_wait(keys: &KeySpace, want: &Want, function: SemaphoreFuncti
         SemaphoreFunction::Try => {
             lr_semaphore::would_wait(keys, &want.name, &Amount::new(want.number))
         }
-        SemaphoreFunction::Set => false,
-        SemaphoreFunction::Release => false,
-        SemaphoreFunction::Count => false,
+        SemaphoreFunction::Set | SemaphoreFunction::Release | SemaphoreFunction::Count => false,
     }
 }
