@@ -48,7 +48,7 @@ filters-swap p q (x ∷ xs) = by (p x) (q x) refl refl (filters-swap p q xs)
     by false false e f rest = rest
 
 -- what is live later is live now
-live-again : (now moment : ℕ) → now ≤ moment → (leases : List PermitLease)
+pub live-again : (now moment : ℕ) → now ≤ moment → (leases : List PermitLease)
     → live_leases moment (live_leases now leases) ≡ live_leases moment leases
 live-again now moment later [] = refl
 live-again now moment later (x ∷ xs) =

@@ -48,7 +48,7 @@ TellsTime function moment until reply =
     blocks reply function ≡ true → (millis : ℕ) × (reply ≡ Busy millis) × (moment + millis ≤ until)
 
 -- a reply that doesn't refuse
-lets : (function : Function) (moment until : ℕ) (reply : Reply) → blocks reply function ≡ false
+pub lets : (function : Function) (moment until : ℕ) (reply : Reply) → blocks reply function ≡ false
     → TellsTime function moment until reply
 lets function moment until reply not_blocked blocked =
     absurd (false≢true (sym not_blocked ∙ blocked))
@@ -230,7 +230,7 @@ never : {A : Type 0} (x : A) → None ≡ Some x → ⊥
 never x e = absurd (cc e)
 
 -- a call that was sent
-asked-is : (moment : ℕ) (waiter : Waiter) (reply : Option Reply) (asking : Asking)
+pub asked-is : (moment : ℕ) (waiter : Waiter) (reply : Option Reply) (asking : Asking)
     → AskedWith moment (Some waiter) → asked_at waiter.stage reply ≡ Some asking
     → IsAsked moment waiter.want asking
 asked-is moment waiter reply asking = by waiter.stage reply

@@ -53,6 +53,25 @@ peak-closes kind name moment (c ∷ cs) state peak =
     })
     peak
 
+-- and no object changes
+objects-closes : (moment : ℕ) (cs : List ℕ) (state : State)
+    → (after state (closes_of_all moment cs)).objects ≡ state.objects
+objects-closes moment [] state = refl
+objects-closes moment (c ∷ cs) state =
+    objects-closes moment cs
+    (record {
+      moment = moment;
+      objects = state.objects;
+      board = closed_board state.board c;
+    })
+
+pub objects-cut : (cs : List ℕ) (world : World)
+    → (state_of (with_cut cs world)).objects ≡ (state_of world).objects
+objects-cut cs world =
+    ap (λ (s : State). s.objects)
+    (after-append first_state world.entries (closes_of_all world.moment cs))
+    ∙ objects-closes world.moment cs (state_of world)
+
 pub peak-cut : (cs : List ℕ) (world : World) (channel : ChannelOf)
     → peak_of (with_cut cs world) channel ≡ peak_of world channel
 peak-cut cs world channel =

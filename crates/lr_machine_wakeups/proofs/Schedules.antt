@@ -1,13 +1,13 @@
 -- Throughout every schedule the facts are so, and no wakeup is lost.
-use Rattle.std.proofs.Common.{◌≡◌, ℕ, suc, ◌+◌, ◌<◌, ◌^◌, List, [], ◌∷◌, ◌++◌, length, length-append, ap, subst, arith}
+use Rattle.std.proofs.Common.{◌≡◌, ℕ, suc, ◌+◌, ◌<◌, ◌^◌, List, [], ◌∷◌, ◌++◌, length, length-append, refl, ap, subst, arith}
 use Rattle.std.specs.List.{AllByRecursion}
 use Rattle.lr_machine.specs.declared.event.Event.{Event}
 use Rattle.lr_machine.specs.Sound.{IsInOrder}
 use Rattle.lr_machine.specs.Within.{IsWithin}
 use Rattle.lr_machine.specs.World.{World, state_of, connection_of, first_world, next, world_after}
-use Rattle.lr_wakeups.proofs.Stands.{no_lost_wakeup}
+use Rattle.lr_wakeups.proofs.Stands.{no_lost_wakeup, no_lost_broadcast}
 use Rattle.lr_machine_laws.proofs.Worlds.{IsInOrder-first_world, IsInOrder-next}
-use Rattle.lr_machine_wakeups.specs.WorldFacts.{peak_of, HaveFacts}
+use Rattle.lr_machine_wakeups.specs.WorldFacts.{present_of, HaveFacts}
 use Rattle.lr_machine_wakeups.specs.Throughout.{NoWakeupIsLost, ThroughoutEverySchedule}
 use Rattle.lr_machine_wakeups.proofs.Worlds.{kept-first, kept-next}
 
@@ -44,8 +44,11 @@ facts_throughout events within few front later split =
 pub none_lost : (n : ℕ) (world : World) → HaveFacts n world → NoWakeupIsLost world
 none_lost n world kept = record {
   stands = λ c thread waiter stand client inside was one told.
-      no_lost_wakeup n (peak_of world) (world.clients c) (connection_of world c)
+      no_lost_wakeup n (present_of world) (world.clients c) (connection_of world c)
       (kept.facts c client) (state_of world) world.moment thread waiter stand inside was one told;
+  reaches = λ c thread waiter stand client inside was all told.
+      no_lost_broadcast n (present_of world) (world.clients c) (connection_of world c)
+      (kept.facts c client) (state_of world) thread waiter stand refl inside was all told;
 }
 
 pub none_lost_throughout : ThroughoutEverySchedule (λ n world. NoWakeupIsLost world)

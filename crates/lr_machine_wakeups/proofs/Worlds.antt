@@ -14,7 +14,7 @@ use Rattle.lr_names.specs.declared.post.Push.TheVariants.{Message}
 use Rattle.lr_objects.specs.declared.op.Op.{Op}
 use Rattle.lr_model.specs.declared.entry.Act.TheVariants.{Subscribe, Unsubscribe, Drain}
 use Rattle.lr_model.specs.declared.entry.Entry.{Entry}
-use Rattle.lr_model.specs.Answer.{reply_of, objects_after, post_of}
+use Rattle.lr_model.specs.Answer.{Objects, reply_of, objects_after, post_of}
 use Rattle.lr_model.specs.Board.{Board, Connection, same_kind, same_channel, same_queue_owner, has_channel, has_room, is_overrun, new_connection, closed_connection, dropped_connection, with_item, with_connection, connection_after_post, connection_after_subscribe, connection_after_unsubscribe, connection_after_drain, board_after_post}
 use Rattle.lr_model.specs.History.{State, step, call_entry, entry_of}
 use Rattle.lr_waiting.specs.declared.latch.Order.{Order}
@@ -24,8 +24,9 @@ use Rattle.lr_waiting.specs.Latch.{first_order_of}
 use Rattle.lr_waiting.specs.Peak.{live_until, tells, peak_by_call, peak_by_act, peak_after}
 use Rattle.lr_waiting.specs.Session.{Session, begin_row, ask_row, check_row, wake_row, fire_row, quit_row, pushed, order_taken}
 use Rattle.lr_wakeups.specs.Facts.{Facts}
+use Rattle.lr_wakeups.specs.Reached.{GoesOn}
 use Rattle.lr_wakeups.proofs.Rows.{facts_later, facts_begin, facts_ask, facts_answered, facts_check, facts_wake, facts_fire, facts_quit, facts_take}
-use Rattle.lr_wakeups.proofs.ServerSteps.{facts_push, facts_order, facts_post, facts_raised, facts_cut, facts_at_start}
+use Rattle.lr_wakeups.proofs.ServerSteps.{facts_push, facts_order, facts_post, facts_going_on, facts_cut, facts_at_start}
 use Rattle.lr_machine.specs.declared.event.Event.{Event}
 use Rattle.lr_machine.specs.declared.event.Event.TheVariants.{Begin, Ask, Exec, Take, Check, Wake, Fire, Quit, Sub, Push as push, Tick, Force, Cut, Show}
 use Rattle.lr_machine.specs.Clients.{client_id, command_connection, subscription_connection, operator, operator_connection, caller_of, client_caller}
@@ -34,26 +35,36 @@ use Rattle.lr_machine.specs.Within.{IsClient, IsWithin}
 use Rattle.lr_machine.specs.World.{World, first_state, first_world, state_of, connection_of, force_of, next_row, next_step, with_entry, cut_among, with_cut, clients_dropped, dropped_at, with_call, answered_in, next_exec, next_order, next_item, next}
 use Rattle.lr_machine_laws.proofs.Connections.{overrun-heard, AreConnected-after_post}
 use Rattle.lr_machine_laws.proofs.Worlds.{IsInOrder-answered}
-use Rattle.lr_machine_wakeups.specs.WorldFacts.{peak_for, peak_of, AreAsked, HaveFacts}
+use Rattle.lr_machine_wakeups.specs.WorldFacts.{peak_for, peak_of, present_of, AreAsked, HaveFacts}
 use Rattle.lr_machine_wakeups.proofs.Answers.{answered-in_time}
+use Rattle.lr_machine_wakeups.proofs.Answered.{answered-waiting}
 use Rattle.lr_machine_wakeups.proofs.Asked.{AskedAfter, ClientAsked, asked-later, asked-client_row, asked-begin, asked-ask, asked-take, asked-check, asked-wake, asked-fire, asked-quit, asked-pushed}
 use Rattle.lr_machine_wakeups.proofs.Deadlines.{quiet_peak, quiet-more}
-use Rattle.lr_machine_wakeups.proofs.Entries.{state-entry, peak-entry, peak-cut, connection-cut}
+use Rattle.lr_machine_wakeups.proofs.Entries.{state-entry, objects-cut, peak-entry, peak-cut, connection-cut}
 use Rattle.lr_machine_wakeups.proofs.Posts.{NamesNoOwner, post-names_no_owner}
+use Rattle.lr_machine_wakeups.proofs.Waits.{call-goes_on, time-goes_on}
 
--- the facts, where peaks and connection are written otherwise
-facts-moved : (n : ℕ) (peak then_ : ChannelOf → ℕ) (client : Client) (connection now : Connection)
-    → ((channel : ChannelOf) → then_ channel ≡ peak channel) → now ≡ connection
-    → Facts n peak client connection → Facts n then_ client now
-facts-moved n peak then_ client connection now same is facts =
-    subst (λ p. Facts n p client now) (λ i channel. sym (same channel) i)
-    (subst (Facts n peak client) (sym is) facts)
+-- the facts, where objects, peaks and connection are written otherwise
+facts-moved : (n : ℕ) (objects objects_then : Objects) (now : ℕ) (peak then_ : ChannelOf → ℕ)
+    (client : Client) (connection hears : Connection)
+    → objects_then ≡ objects → ((channel : ChannelOf) → then_ channel ≡ peak channel)
+    → hears ≡ connection
+    → Facts n (record { objects = objects; now = now; peak = peak }) client connection
+    → Facts n (record { objects = objects_then; now = now; peak = then_ }) client hears
+facts-moved n objects objects_then now peak then_ client connection hears are same is facts =
+    subst (λ p. Facts n p client hears)
+    (λ i. record {
+      objects = sym are i;
+      now = now;
+      peak = λ channel. sym (same channel) i;
+    })
+    (subst (Facts n (record { objects = objects; now = now; peak = peak }) client) (sym is) facts)
 
 -- there may be more orders
 kept-later : (n : ℕ) (world : World) → HaveFacts n world → HaveFacts (suc n) world
 kept-later n world kept = record {
   facts = λ c within.
-      facts_later n (peak_of world) (world.clients c) (connection_of world c)
+      facts_later n (present_of world) (world.clients c) (connection_of world c)
       (kept.facts c within);
   asked = kept.asked;
 }
@@ -62,7 +73,7 @@ kept-later n world kept = record {
 
 kept-row : (n : ℕ) (world : World) (c : ℕ) (row : Option Client)
     → ((after : Client) → row ≡ Some after
-    → Facts (suc n) (peak_of world) after (connection_of world c))
+    → Facts (suc n) (present_of world) after (connection_of world c))
     → ClientAsked world.moment row → HaveFacts n world → HaveFacts (suc n) (next_row world c row)
 kept-row n world c None facts asked kept = kept-later n world kept
 kept-row n world c (Some client) facts asked kept = record {
@@ -71,10 +82,10 @@ kept-row n world c (Some client) facts asked kept = record {
 }
   where
     by : (d : ℕ) → IsClient d → (same : Bool) → (c == d) ≡ same
-        → Facts (suc n) (peak_of world) (if same then client else world.clients d)
+        → Facts (suc n) (present_of world) (if same then client else world.clients d)
         (connection_of world d)
     by d within true e =
-        subst (λ k. Facts (suc n) (peak_of world) client (connection_of world k))
+        subst (λ k. Facts (suc n) (present_of world) client (connection_of world k))
         (eqb-true c d e) (facts client refl)
     by d within false e = (kept-later n world kept).facts d within
 
@@ -85,7 +96,7 @@ kept-row n world c (Some client) facts asked kept = record {
 
 kept-step : (n : ℕ) (world : World) (c : ℕ) (row : Session → Option Session)
     → ((after : Client) → client_row row (world.clients c) ≡ Some after
-    → Facts (suc n) (peak_of world) after (connection_of world c))
+    → Facts (suc n) (present_of world) after (connection_of world c))
     → AskedAfter world.moment (row (world.clients c).session) → HaveFacts n world
     → HaveFacts (suc n) (next_step world c row)
 kept-step n world c row facts asked kept =
@@ -96,23 +107,24 @@ kept-step n world c row facts asked kept =
 
 kept-cut : (n : ℕ) (world : World) (cs : List ℕ)
     → ((d : ℕ) → IsClient d → list_any (λ other. d == other) cs ≡ false
-    → Facts n (peak_of world) (world.clients d) (connection_of world d))
+    → Facts n (present_of world) (world.clients d) (connection_of world d))
     → ((d : ℕ) → AreAsked world.moment (world.clients d).session.waiters)
     → HaveFacts n (with_cut cs world)
 kept-cut n world cs facts asked = record {
   facts = λ d within.
-      facts-moved n (peak_of world) (peak_of (with_cut cs world)) (cut_among cs world.clients d)
+      facts-moved n (state_of world).objects (state_of (with_cut cs world)).objects world.moment
+      (peak_of world) (peak_of (with_cut cs world)) (cut_among cs world.clients d)
       (if list_any (λ other. d == other) cs then closed_connection else connection_of world d)
-      (connection_of (with_cut cs world) d) (peak-cut cs world)
+      (connection_of (with_cut cs world) d) (objects-cut cs world) (peak-cut cs world)
       (connection-cut cs world d within)
       (by d within (list_any (λ other. d == other) cs) refl);
   asked = λ d. asked_by d (list_any (λ other. d == other) cs);
 }
   where
     by : (d : ℕ) → IsClient d → (among : Bool) → list_any (λ other. d == other) cs ≡ among
-        → Facts n (peak_of world) (if among then cut_client (world.clients d) else world.clients d)
+        → Facts n (present_of world) (if among then cut_client (world.clients d) else world.clients d)
         (if among then closed_connection else connection_of world d)
-    by d within true e = facts_cut n (peak_of world) (world.clients d)
+    by d within true e = facts_cut n (present_of world) (world.clients d)
     by d within false e = facts d within e
 
     asked_by : (d : ℕ) (among : Bool)
@@ -215,32 +227,53 @@ kept-call n world caller conn op order kept =
     entry : Entry
     entry = call_entry world.moment caller conn op
 
-    then_ : ChannelOf → ℕ
-    then_ channel =
+    peaks : ChannelOf → ℕ
+    peaks channel =
         peak_for channel.owner
         (peak_by_call channel.kind channel.name (state_of world) world.moment op
         (peak_after channel.kind channel.name first_state world.entries 0))
 
+    -- on the channels of which nobody is told all goes on
+    goes : (told : ChannelOf → Bool)
+        → ((channel : ChannelOf) → channel.owner ≡ None → told channel ≡ false
+        → tells channel.kind channel.name (post_of (state_of world).objects world.moment op)
+        ≡ false)
+        → GoesOn told (present_of world)
+        (record {
+          objects = objects_after (state_of world).objects world.moment op;
+          now = world.moment;
+          peak = peaks;
+        })
+    goes told quiet =
+        call-goes_on (state_of world).objects world.moment op (peak_of world) peaks told
+        (λ channel untold.
+        raised-for channel (state_of world) world.moment op
+        (peak_after channel.kind channel.name first_state world.entries 0)
+        (λ alone. quiet channel alone untold))
+        quiet
+
     posted : (d : ℕ) → IsClient d → (post : Option Post)
         → post_of (state_of world).objects world.moment op ≡ post
         → list_any (λ other. d == other) (clients_dropped (state_of world).board post) ≡ false
-        → Facts n then_ (world.clients d)
+        → Facts n
+        (record {
+          objects = objects_after (state_of world).objects world.moment op;
+          now = world.moment;
+          peak = peaks;
+        })
+        (world.clients d)
         (board_after_post post (state_of world).board (subscription_connection d))
     posted d within None e apart =
-        facts_raised n (peak_of world) (world.clients d) (connection_of world d)
-        (kept.facts d within) then_
-        (λ channel.
-        raised-for channel (state_of world) world.moment op
-        (peak_after channel.kind channel.name first_state world.entries 0)
-        (λ alone. ap (tells channel.kind channel.name) e))
+        facts_going_on n (present_of world) (world.clients d) (connection_of world d)
+        (kept.facts d within) _
+        (goes (λ channel. false)
+        (λ channel alone untold. ap (tells channel.kind channel.name) e))
     posted d within (Some post) e apart =
-        facts_post n (peak_of world) (world.clients d) (connection_of world d)
-        (kept.facts d within) post then_
+        facts_post n (present_of world) (world.clients d) (connection_of world d)
+        (kept.facts d within) post _
         (not-overrun post (state_of world).board world.clients order.connected d within apart)
-        (λ channel other.
-        raised-for channel (state_of world) world.moment op
-        (peak_after channel.kind channel.name first_state world.entries 0)
-        (λ alone.
+        (goes (λ channel. same_channel channel post.channel)
+        (λ channel alone other.
         ap (tells channel.kind channel.name) e
         ∙ sym
         (same-object channel post.channel alone
@@ -249,13 +282,16 @@ kept-call n world caller conn op order kept =
 
     facts : (d : ℕ) → IsClient d
         → list_any (λ other. d == other) (dropped_at (state_of world) world.moment op) ≡ false
-        → Facts n (peak_of (with_entry entry world)) (world.clients d)
+        → Facts n (present_of (with_entry entry world)) (world.clients d)
         (connection_of (with_entry entry world) d)
     facts d within apart =
-        facts-moved n then_ (peak_of (with_entry entry world)) (world.clients d)
+        facts-moved n (objects_after (state_of world).objects world.moment op)
+        (state_of (with_entry entry world)).objects world.moment peaks
+        (peak_of (with_entry entry world)) (world.clients d)
         (board_after_post (post_of (state_of world).objects world.moment op) (state_of world).board
         (subscription_connection d))
-        (connection_of (with_entry entry world) d) (peak-entry entry world)
+        (connection_of (with_entry entry world) d)
+        (ap (λ (s : State). s.objects) (state-entry entry world)) (peak-entry entry world)
         (ap (λ (s : State). s.board (subscription_connection d)) (state-entry entry world))
         (posted d within (post_of (state_of world).objects world.moment op) refl apart)
 
@@ -269,12 +305,13 @@ kept-exec n world c t client thread order kept (Some asking) e false =
     asking.op (IsInOrder-answered world c t asking.op order)
     (kept-row n world c (Some answered)
     (λ after same.
-    subst (λ k. Facts (suc n) (peak_of world) k (connection_of world c)) (same_Some answered after same)
-    (facts_later n (peak_of world) answered (connection_of world c)
-    (facts_answered n (peak_of world) (world.clients c) (connection_of world c)
+    subst (λ k. Facts (suc n) (present_of world) k (connection_of world c)) (same_Some answered after same)
+    (facts_later n (present_of world) answered (connection_of world c)
+    (facts_answered n (present_of world) (world.clients c) (connection_of world c)
     (kept.facts c client) t thread asking
     (reply_of (state_of world).objects world.moment asking.op) e
-    (answered-in_time world (world.clients c) t asking order (kept.asked c t) e))))
+    (answered-in_time world (world.clients c) t asking order (kept.asked c t) e)
+    (answered-waiting world (world.clients c) t asking order (kept.asked c t) e))))
     (kept.asked c) kept)
   where
     answered : Client
@@ -286,21 +323,24 @@ kept-exec n world c t client thread order kept (Some asking) e false =
 
 -- a client makes a step, and acts on the connection for its messages
 kept-hearing : (n : ℕ) (world : World) (c : ℕ) (client : Client) (now : Connection) (entry : Entry)
-    → IsClient c → Facts n (peak_of world) client now
+    → IsClient c → Facts n (present_of world) client now
     → AreAsked world.moment client.session.waiters
     → (step (state_of world) entry).board
     ≡ with_connection (state_of world).board (subscription_connection c) now
+    → (step (state_of world) entry).objects ≡ (state_of world).objects
     → ((channel : ChannelOf) (peak : ℕ)
     → peak_by_act channel.kind channel.name (state_of world) entry.moment entry.act peak ≡ peak)
     → HaveFacts n world → HaveFacts n (with_entry entry (next_row world c (Some client)))
-kept-hearing n world c client now entry is_client facts asked board quiet kept = record {
+kept-hearing n world c client now entry is_client facts asked board same quiet kept = record {
   facts = λ d within.
-      facts-moved n (peak_of world)
-      (peak_of (with_entry entry (next_row world c (Some client))))
+      facts-moved n (state_of world).objects
+      (state_of (with_entry entry (next_row world c (Some client)))).objects world.moment
+      (peak_of world) (peak_of (with_entry entry (next_row world c (Some client))))
       (if c == d then client else world.clients d)
       (with_connection (state_of world).board (subscription_connection c) now
       (subscription_connection d))
       (connection_of (with_entry entry (next_row world c (Some client))) d)
+      (ap (λ (s : State). s.objects) (state-entry entry (next_row world c (Some client))) ∙ same)
       (λ channel.
       peak-entry entry (next_row world c (Some client)) channel
       ∙ ap (peak_for channel.owner)
@@ -314,7 +354,7 @@ kept-hearing n world c client now entry is_client facts asked board quiet kept =
   where
     by : (d : ℕ) → IsClient d → (same hears : Bool) → (c == d) ≡ same
         → (subscription_connection c == subscription_connection d) ≡ hears
-        → Facts n (peak_of world) (if same then client else world.clients d)
+        → Facts n (present_of world) (if same then client else world.clients d)
         (if hears then now else connection_of world d)
     by d within true true e f = facts
     by d within false false e f = kept.facts d within
@@ -347,11 +387,11 @@ kept-order : (n : ℕ) (world : World) (c : ℕ) (order : Order) → IsClient c
 kept-order n world c order client first kept subscribe room e =
     by subscribe room
     (subst
-    (λ b. Facts n (peak_of world) taken
+    (λ b. Facts n (present_of world) taken
     (if b then connection_after_subscribe order.channel (connection_of world c)
     else connection_after_unsubscribe order.channel (connection_of world c)))
     e
-    (facts_order n (peak_of world) (world.clients c) (connection_of world c) (kept.facts c client)
+    (facts_order n (present_of world) (world.clients c) (connection_of world c) (kept.facts c client)
     order first))
   where
     taken : Client
@@ -361,7 +401,7 @@ kept-order n world c order client first kept subscribe room e =
     }
 
     by : (subscribe room : Bool)
-        → Facts n (peak_of world) taken
+        → Facts n (present_of world) taken
         (if subscribe then connection_after_subscribe order.channel (connection_of world c)
         else connection_after_unsubscribe order.channel (connection_of world c))
         → HaveFacts n
@@ -377,13 +417,13 @@ kept-order n world c order client first kept subscribe room e =
         (connection_after_subscribe order.channel (connection_of world c))
         (entry_of world.moment (client_caller c) (subscription_connection c)
         (Subscribe order.channel))
-        client facts (kept.asked c) refl (λ channel peak. refl) kept
+        client facts (kept.asked c) refl refl (λ channel peak. refl) kept
     by false true facts =
         kept-hearing n world c taken
         (connection_after_unsubscribe order.channel (connection_of world c))
         (entry_of world.moment (client_caller c) (subscription_connection c)
         (Unsubscribe order.channel))
-        client facts (kept.asked c) refl (λ channel peak. refl) kept
+        client facts (kept.asked c) refl refl (λ channel peak. refl) kept
 
 kept-next_order : (n : ℕ) (world : World) (c : ℕ) → IsClient c → HaveFacts n world
     → (found : Option Order) → first_order_of (world.clients c).session.latches ≡ found
@@ -393,23 +433,24 @@ kept-next_order n world c client kept None e false = kept
 kept-next_order n world c client kept (Some order) e false =
     kept-order n world c order client e kept order.subscribe (has_room (connection_of world c)) refl
 
-kept-next_item : (n : ℕ) (world : World) (c : ℕ) → n < 2 ^ 64 → IsClient c → HaveFacts n world
+kept-next_item : (n : ℕ) (world : World) (c : ℕ) → suc n < 2 ^ 64 → IsClient c
+    → HaveFacts n world
     → (found : Option Push) → slice_get (connection_of world c).outbox 0 ≡ found
-    → (cut : Bool) → HaveFacts n (next_item world c (if cut then None else found))
-kept-next_item n world c few client kept found e true = kept
-kept-next_item n world c few client kept None e false = kept
+    → (cut : Bool) → HaveFacts (suc n) (next_item world c (if cut then None else found))
+kept-next_item n world c few client kept found e true = kept-later n world kept
+kept-next_item n world c few client kept None e false = kept-later n world kept
 kept-next_item n world c few client kept (Some item) e false =
-    kept-hearing n world c
+    kept-hearing (suc n) world c
     (record {
       session = pushed item (world.clients c).session;
       replies = (world.clients c).replies;
     })
     (connection_after_drain 1 (connection_of world c))
     (entry_of world.moment (client_caller c) (subscription_connection c) (Drain 1)) client
-    (facts_push n (peak_of world) (world.clients c) (connection_of world c) (kept.facts c client)
+    (facts_push n (present_of world) (world.clients c) (connection_of world c) (kept.facts c client)
     item few e)
-    (asked-pushed world.moment item (world.clients c).session (kept.asked c)) refl
-    (λ channel peak. refl) kept
+    (asked-pushed world.moment item (world.clients c).session (kept.asked c)) refl refl
+    (λ channel peak. refl) (kept-later n world kept)
 
 kept-next_cut : (n : ℕ) (world : World) (c : ℕ) → HaveFacts n world → (cut : Bool)
     → HaveFacts n (if cut then world else with_cut (c ∷ []) world)
@@ -421,7 +462,7 @@ kept-next_cut n world c kept false = kept-cut_one n world c kept
 pub kept-first : HaveFacts 0 first_world
 kept-first = record {
   facts = λ c within.
-      facts_at_start 0 (peak_of first_world) (client_id c) watchdog_lease
+      facts_at_start 0 (present_of first_world) (client_id c) watchdog_lease
       (first_state.board (subscription_connection c))
       (no_channels (nat_le (subscription_connection c) 128))
       (no_items (nat_le (subscription_connection c) 128));
@@ -445,18 +486,18 @@ pub kept-next : (n : ℕ) (world : World) (event : Event) → suc n < 2 ^ 64 →
 kept-next n world event few within order kept = by event within
   where
     later : (c : ℕ) → IsClient c
-        → Facts (suc n) (peak_of world) (world.clients c) (connection_of world c)
+        → Facts (suc n) (present_of world) (world.clients c) (connection_of world c)
     later = (kept-later n world kept).facts
 
     by : (e : Event) → IsWithin e → HaveFacts (suc n) (next world e)
     by (Begin c t mode want) inside =
         kept-step n world c (begin_row t mode want)
-        (facts_begin (suc n) (peak_of world) (world.clients c) (connection_of world c)
+        (facts_begin (suc n) (present_of world) (world.clients c) (connection_of world c)
         (later c inside.0) t inside.1.1 mode want)
         (asked-begin world.moment (world.clients c).session (kept.asked c) t mode want) kept
     by (Ask c t) inside =
         kept-step n world c (ask_row t world.moment)
-        (facts_ask (suc n) (peak_of world) (world.clients c) (connection_of world c)
+        (facts_ask (suc n) (present_of world) (world.clients c) (connection_of world c)
         (later c inside.0) t inside.1.1 world.moment)
         (asked-ask world.moment (world.clients c).session (kept.asked c) t) kept
     by (Exec c t) inside =
@@ -465,27 +506,27 @@ kept-next n world event few within order kept = by event within
     by (Take c t) inside =
         kept-row n world c (take_reply t (world.clients c))
         (λ after.
-        facts_take n (peak_of world) (world.clients c) (connection_of world c)
+        facts_take n (present_of world) (world.clients c) (connection_of world c)
         (kept.facts c inside.0) t inside.1.1 after few)
         (asked-take world.moment t (world.clients c) (kept.asked c)) kept
     by (Check c t) inside =
         kept-step n world c (check_row t world.moment)
-        (facts_check (suc n) (peak_of world) (world.clients c) (connection_of world c)
+        (facts_check (suc n) (present_of world) (world.clients c) (connection_of world c)
         (later c inside.0) t inside.1.1 world.moment)
         (asked-check world.moment (world.clients c).session (kept.asked c) t world.moment) kept
     by (Wake c t) inside =
         kept-step n world c (wake_row t)
-        (facts_wake (suc n) (peak_of world) (world.clients c) (connection_of world c)
+        (facts_wake (suc n) (present_of world) (world.clients c) (connection_of world c)
         (later c inside.0) t inside.1.1)
         (asked-wake world.moment (world.clients c).session (kept.asked c) t) kept
     by (Fire c t) inside =
         kept-step n world c (fire_row t world.moment)
-        (facts_fire (suc n) (peak_of world) (world.clients c) (connection_of world c)
+        (facts_fire (suc n) (present_of world) (world.clients c) (connection_of world c)
         (later c inside.0) t inside.1.1 world.moment)
         (asked-fire world.moment (world.clients c).session (kept.asked c) t world.moment) kept
     by (Quit c t) inside =
         kept-step n world c (quit_row t)
-        (facts_quit (suc n) (peak_of world) (world.clients c) (connection_of world c)
+        (facts_quit (suc n) (present_of world) (world.clients c) (connection_of world c)
         (later c inside.0) t inside.1.1)
         (asked-quit world.moment (world.clients c).session (kept.asked c) t) kept
     by (Sub c) inside =
@@ -493,11 +534,14 @@ kept-next n world event few within order kept = by event within
         (kept-next_order n world c inside kept
         (first_order_of (world.clients c).session.latches) refl (world.clients c).session.is_cut)
     by (push c) inside =
-        kept-later n (next world (push c))
-        (kept-next_item n world c (omega (arith, few)) inside kept
-        (slice_get (connection_of world c).outbox 0) refl (world.clients c).session.is_cut)
+        kept-next_item n world c few inside kept (slice_get (connection_of world c).outbox 0) refl
+        (world.clients c).session.is_cut
     by (Tick moment) inside = record {
-      facts = later;
+      facts = λ c client.
+          facts_going_on (suc n) (present_of world) (world.clients c) (connection_of world c)
+          (later c client) (present_of (next world (Tick moment)))
+          (time-goes_on (state_of world).objects world.moment
+          (next world (Tick moment)).moment (peak_of world) (omega arith));
       asked = λ c thread.
           asked-later world.moment (next world (Tick moment)).moment
           ((world.clients c).session.waiters thread) (omega arith) (kept.asked c thread);

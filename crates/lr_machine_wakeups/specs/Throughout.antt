@@ -3,20 +3,22 @@ use Rattle.std.specs.Prelude.{◌≡◌, ℕ, ◌<◌, ◌≤◌, ◌^◌, List,
 use Rattle.std.specs.List.{AllByRecursion}
 use Rattle.lr_limits.specs.Limits.{thread_limit}
 use Rattle.lr_names.specs.Channel.{channel_wakes}
-use Rattle.lr_names.specs.declared.kind.Wakes.TheVariants.{One}
+use Rattle.lr_names.specs.declared.kind.Wakes.TheVariants.{One, All}
 use Rattle.lr_waiting.specs.declared.stand.Stand.{Stand}
 use Rattle.lr_waiting.specs.declared.waiter.Waiter.{Waiter}
 use Rattle.lr_waiting.specs.Client.{waiter_in}
 use Rattle.lr_waiting.specs.Session.{channel_in}
 use Rattle.lr_waiting.specs.Stand.{stand_of}
+use Rattle.lr_wakeups.specs.Reached.{timer_bound, StandsBy}
 use Rattle.lr_wakeups.specs.Standing.{StandsWithin}
 use Rattle.lr_machine.specs.declared.event.Event.{Event}
 use Rattle.lr_machine.specs.Within.{IsClient, IsWithin}
 use Rattle.lr_machine.specs.World.{World, state_of, connection_of, first_world, world_after}
 use Rattle.lr_machine_wakeups.specs.WorldFacts.{peak_of}
 
--- What is told to stand for a thread that sleeps, on a channel where a message wakes one, is never
--- nothing, and a timer isn't later than the peak.
+-- What is told to stand for a thread that sleeps is never nothing. On a channel where a message wakes
+-- one, a timer isn't later than the peak. Where a message wakes all, it isn't later than the peak of
+-- a read-write lock, or than now where permits are waited for.
 pub record NoWakeupIsLost (world : World) : Type 0 where
   pub stands : (c thread : ℕ) (waiter : Waiter) (stand : Stand) → IsClient c
       → thread ≤ thread_limit → waiter_in (world.clients c) thread ≡ Some waiter
@@ -25,6 +27,16 @@ pub record NoWakeupIsLost (world : World) : Type 0 where
       thread
       ≡ Some stand
       → StandsWithin (peak_of world (channel_in (world.clients c).session thread waiter)) stand
+  pub reaches : (c thread : ℕ) (waiter : Waiter) (stand : Stand) → IsClient c
+      → thread ≤ thread_limit → waiter_in (world.clients c) thread ≡ Some waiter
+      → channel_wakes (channel_in (world.clients c).session thread waiter).kind ≡ All
+      → stand_of (state_of world) world.moment (connection_of world c).outbox (world.clients c)
+      thread
+      ≡ Some stand
+      → StandsBy
+      (timer_bound (channel_in (world.clients c).session thread waiter).kind
+      (peak_of world (channel_in (world.clients c).session thread waiter)) world.moment)
+      stand
 
 -- what is so after each of these events, and before the first: of the number of events so far, and
 -- of the world after them

@@ -10,8 +10,9 @@ use Rattle.lr_waiting.specs.declared.waiter.Stage.TheVariants.{Asked}
 use Rattle.lr_waiting.specs.declared.waiter.Waiter.{Waiter}
 use Rattle.lr_waiting.specs.Peak.{peak_after}
 use Rattle.lr_wakeups.specs.Facts.{Facts}
+use Rattle.lr_wakeups.specs.Reached.{Present}
 use Rattle.lr_machine.specs.Within.{IsClient}
-use Rattle.lr_machine.specs.World.{World, first_state, connection_of}
+use Rattle.lr_machine.specs.World.{World, first_state, state_of, connection_of}
 
 -- the peak of a channel that all who wait for an object share: nobody waits on one of an owner
 abbrev pub peak_for : Option ThreadOfClient → ℕ → ℕ
@@ -23,6 +24,11 @@ abbrev pub peak_of : World → ChannelOf → ℕ
 peak_of world channel =
     peak_for channel.owner
     (peak_after channel.kind channel.name first_state world.entries 0)
+
+-- its objects, its moment, and its peaks
+abbrev pub present_of : World → Present
+present_of world =
+    record { objects = (state_of world).objects; now = world.moment; peak = peak_of world }
 
 -- a call that was sent is of its request, and wasn't sent later than now
 pub record IsAsked (moment : ℕ) (want : Want) (asking : Asking) : Type 0 where
@@ -44,9 +50,9 @@ AskedWith moment (Some waiter) = AskedAt moment waiter.want waiter.stage
 abbrev pub AreAsked : ℕ → (ℕ → Option Waiter) → Type 0
 AreAsked moment waiters = (thread : ℕ) → AskedWith moment (waiters thread)
 
--- The facts of each client, where it may have made n orders to subscribe on a channel. They are so
--- of one that was cut off too: it has no threads that wait, and its connection is closed.
+-- The facts of each client, where it may have made n orders to subscribe on a channel, and n
+-- messages may have come there. They are so of one that was cut off too: it has no threads that wait, and its connection is closed.
 pub record HaveFacts (n : ℕ) (world : World) : Type 0 where
   pub facts : (c : ℕ) → IsClient c
-      → Facts n (peak_of world) (world.clients c) (connection_of world c)
+      → Facts n (present_of world) (world.clients c) (connection_of world c)
   pub asked : (c : ℕ) → AreAsked world.moment (world.clients c).session.waiters

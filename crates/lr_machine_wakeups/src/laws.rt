@@ -14,13 +14,15 @@ pub fn live_deadlines_stay_below_the_peak()
 {}
 
 /// After each event of every schedule within the limits, and before the first, all facts are so of
-/// each client and of the connection by which it subscribes.
+/// each client and of the connection by which it subscribes. Among them is that who was refused a
+/// permit, and whom no message has reached since, is due no later than any lease that is live ends,
+/// or by now.
 pub fn the_facts_hold_throughout()
     ensures { ThroughoutEverySchedule HaveFacts }
 {}
 
-/// And what is told to stand for a thread that sleeps, on a channel where a message wakes one, is
-/// never nothing, and no timer that is later than the peak.
+/// And what is told to stand for a thread that sleeps is never nothing, and no timer that is too
+/// late: later than the peak of a lock, or later than now where permits are waited for.
 pub fn no_wakeup_is_lost_in_any_schedule()
     ensures { ThroughoutEverySchedule (λ n world. NoWakeupIsLost world) }
 {}
@@ -30,7 +32,8 @@ pub fn the_facts_hold_before_the_first_event()
     ensures { HaveFacts 0 first_world }
 {}
 
-/// An event within the limits keeps the facts. A client makes one order more at most.
+/// An event within the limits keeps the facts. A client makes one order more at most, or one message
+/// more comes.
 pub fn an_event_keeps_the_facts()
     ensures { (n : ℕ) (world : World) (event : Event) → suc n < 2 ^ 64 → IsWithin event
         → IsInOrder world → HaveFacts n world → HaveFacts (suc n) (next world event) }

@@ -1,8 +1,9 @@
 -- Threads that joined may ask once more when their client hears the channel; all others stay.
-use Rattle.std.proofs.Common.{◌≡◌, ℕ, ◌≤◌, Bool, true, false, not, ◌&&◌, Option, Some, None, refl, ap, sym, ◌∙◌, subst, if◌then◌else◌}
+use Rattle.std.proofs.Common.{◌≡◌, ℕ, ◌≤◌, List, Bool, true, false, not, ◌&&◌, Option, Some, None, refl, ap, sym, ◌∙◌, subst, arith, if◌then◌else◌}
 use Rattle.std.proofs.lemmas.Bool.{and_parts, false≢true}
 use Rattle.lr_limits.specs.Limits.{thread_limit}
 use Rattle.lr_names.specs.Channel.{ChannelOf}
+use Rattle.lr_names.specs.declared.post.Push.{Push}
 use Rattle.lr_objects.specs.declared.kinds.Function.{Function}
 use Rattle.lr_objects.specs.declared.reply.Reply.{Reply}
 use Rattle.lr_waiting.specs.declared.waiter.Stage.{Stage}
@@ -17,9 +18,11 @@ use Rattle.lr_model.proofs.SameChannel.{same_is}
 use Rattle.lr_wakeups.specs.Registered.{registered_with, is_registered}
 use Rattle.lr_wakeups.specs.Joining.{FitsStage, IsPlaced, PlacedWith, PlacedIn}
 use Rattle.lr_wakeups.specs.Answered.{is_asked_at, asked_with}
+use Rattle.lr_wakeups.specs.Reached.{Present, ReachedWith}
 use Rattle.lr_wakeups.specs.Standing.{blocked_with, is_blocked}
 use Rattle.lr_wakeups.proofs.EntryChanges.{ChangesEntry}
 use Rattle.lr_wakeups.proofs.Joining.{placed_on}
+use Rattle.lr_wakeups.proofs.Reached.{reached_free}
 use Rattle.lr_wakeups.proofs.Threads.{seen_alike, registered_local, blocked_local, awake_local, due_local}
 
 -- What a request that joins isn't.
@@ -129,6 +132,36 @@ module _ (channel : ChannelOf) (client : Client) where
           (seen_alike (blocked_with q) (blocked_local q) client (joined_client channel client)
           thread (waiter_in client thread) refl refl now)
           ∙ blocked
+
+  -- who joined wasn't refused, and all others stay
+  pub joined_reached : (present : Present) (outbox : List Push) (thread : ℕ)
+      → ReachedWith present client.session.client
+      (acknowledge_at channel client.session.latches).entries outbox thread
+      (client.replies thread) (waiter_in client thread)
+      → ReachedWith present client.session.client
+      (acknowledge_at channel client.session.latches).entries outbox thread
+      (client.replies thread) (waiter_in (joined_client channel client) thread)
+  joined_reached present outbox thread reached = by (joins_or_stays thread)
+    where
+      by : JoinsOrStays channel client thread (waiter_in (joined_client channel client) thread)
+          → ReachedWith present client.session.client
+          (acknowledge_at channel client.session.latches).entries outbox thread
+          (client.replies thread) (waiter_in (joined_client channel client) thread)
+      by (Joins waiter turn was joining own now) =
+          subst
+          (ReachedWith present client.session.client
+          (acknowledge_at channel client.session.latches).entries outbox thread
+          (client.replies thread))
+          (sym now)
+          (reached_free present client.session.client thread
+          (acknowledge_at channel client.session.latches).entries outbox (client.replies thread)
+          (at_stage (Ready turn) waiter) (λ inside. omega arith) refl)
+      by (Stays other now) =
+          subst
+          (ReachedWith present client.session.client
+          (acknowledge_at channel client.session.latches).entries outbox thread
+          (client.replies thread))
+          (sym now) reached
 
   pub joined_awake : (q : ChannelOf) (thread : ℕ) → is_awake q client thread ≡ true
       → is_awake q (joined_client channel client) thread ≡ true

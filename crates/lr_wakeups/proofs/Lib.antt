@@ -15,6 +15,7 @@ pub mod Answered
 pub mod Standing
 pub mod Joined
 pub mod Relatched
+pub mod Reached
 pub mod LatchFacts
 pub mod ThreadSteps
 pub mod Rows

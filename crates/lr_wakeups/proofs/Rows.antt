@@ -1,10 +1,9 @@
 -- All facts after each row of a thread.
-use Rattle.std.proofs.Common.{◌≡◌, ℕ, suc, ◌<◌, ◌≤◌, ◌^◌, Bool, true, false, not, Option, Some, None, refl, ap, sym, ◌∙◌, subst, if◌then◌else◌}
+use Rattle.std.proofs.Common.{◌≡◌, ℕ, suc, ◌<◌, ◌≤◌, ◌^◌, Bool, true, false, not, Option, Some, None, refl, ap, sym, ◌∙◌, subst, arith, if◌then◌else◌}
 use Rattle.std.specs.Option.{option_map}
 use Rattle.std.proofs.lemmas.Bool.{and_parts}
 use Rattle.std.proofs.lemmas.Option.{same_Some}
 use Rattle.lr_limits.specs.Limits.{thread_limit}
-use Rattle.lr_names.specs.Channel.{ChannelOf}
 use Rattle.lr_objects.specs.Reply.{blocks}
 use Rattle.lr_objects.specs.declared.reply.Reply.{Reply}
 use Rattle.lr_objects.specs.declared.reply.Reply.TheVariants as replies
@@ -23,11 +22,12 @@ use Rattle.lr_waiting.specs.declared.watch.Watch.{Watch}
 use Rattle.lr_waiting.specs.declared.watch.WatchKey.{WatchKey}
 use Rattle.lr_model.specs.Board.{Connection}
 use Rattle.lr_waiting.specs.Latch.{is_subscribed, is_due, next_count, take_permit_at, register_in, register_at, leave_at, checked_in, woken_in}
-use Rattle.lr_waiting.specs.Session.{Session, with_waiter, with_stage, with_ticket, with_latches, without_waiter, of_waiter, begin_at, begin_row, new_waiter, ask_at, ask_row, asking_for, leaving_want, leaving_function, may_wait, waits_for, channel_in, entry_for, key_in, is_joining_at, due_after, watch_begun, watch_ended, watched_by, refused, registered, take_at, take_row, checked, check_at, check_row, woken, wake_at, wake_row, fire_at, fire_row, quit_at, quit_row}
+use Rattle.lr_waiting.specs.Session.{Session, owner_in, with_waiter, with_stage, with_ticket, with_latches, without_waiter, of_waiter, begin_at, begin_row, new_waiter, ask_at, ask_row, asking_for, leaving_want, leaving_function, may_wait, waits_for, channel_in, entry_for, key_in, is_joining_at, due_after, watch_begun, watch_ended, watched_by, refused, registered, take_at, take_row, checked, check_at, check_row, woken, wake_at, wake_row, fire_at, fire_row, quit_at, quit_row}
 use Rattle.lr_waiting.specs.Client.{Client, waiter_in, client_row, with_reply, asked_at, asked_by, asked_of, take_with, take_reply}
 use Rattle.lr_wakeups.specs.Joining.{FitsStage}
 use Rattle.lr_wakeups.specs.Answered.{is_asked_at}
 use Rattle.lr_wakeups.specs.Standing.{IsInTime}
+use Rattle.lr_wakeups.specs.Reached.{Present, IsLeftWaiting}
 use Rattle.lr_wakeups.specs.Facts.{Facts}
 use Rattle.lr_wakeups.proofs.LatchFacts.{latch_facts_later}
 use Rattle.lr_wakeups.proofs.Threads.{changes_waiter, changes_both}
@@ -39,18 +39,20 @@ never : {A : Type 0} (x : A) → None ≡ Some x → ⊥
 never x e = absurd (cc e)
 
 -- there may be more orders
-pub facts_later : (n : ℕ) (peak : ChannelOf → ℕ) (client : Client) (connection : Connection)
-    → Facts n peak client connection → Facts (suc n) peak client connection
-facts_later n peak client connection facts = record {
+pub facts_later : (n : ℕ) (present : Present) (client : Client) (connection : Connection)
+    → Facts n present client connection → Facts (suc n) present client connection
+facts_later n present client connection facts = record {
   accounted =
       (latch_facts_later n client.session.latches connection
-      (latch_facts n peak client connection facts)).accounted;
+      (latch_facts n present client connection facts)).accounted;
   matched = facts.matched;
   bounded = facts.bounded;
   counted = facts.counted;
   placed = facts.placed;
   answered = facts.answered;
   covered = facts.covered;
+  few = λ q. omega (arith, facts.few q);
+  reached = facts.reached;
 }
 
 -- a row that applies
@@ -107,11 +109,11 @@ watched session asking key P then_ = by
     by replies.NotHeld = ends key
     by _ = same
 
-module _ (n : ℕ) (peak : ChannelOf → ℕ) (client : Client) (connection : Connection)
-    (facts : Facts n peak client connection) (thread : ℕ) (within : thread ≤ thread_limit) where
+module _ (n : ℕ) (present : Present) (client : Client) (connection : Connection)
+    (facts : Facts n present client connection) (thread : ℕ) (within : thread ≤ thread_limit) where
   -- the facts of a client with this session
   abbrev With : Session → Type 0
-  With session = Facts n peak (record client { session = session }) connection
+  With session = Facts n present (record client { session = session }) connection
 
   reached : (now session : Session) → With now → Some now ≡ Some session → With session
   reached now session here e = subst With (same_Some now session e) here
@@ -119,9 +121,9 @@ module _ (n : ℕ) (peak : ChannelOf → ℕ) (client : Client) (connection : Co
   -- begin
   pub facts_begin : (mode : Mode) (want : Want) (after : Client)
       → client_row (begin_row thread mode want) client ≡ Some after
-      → Facts n peak after connection
+      → Facts n present after connection
   facts_begin mode want after =
-      applies (begin_row thread mode want) client after (λ c. Facts n peak c connection)
+      applies (begin_row thread mode want) client after (λ c. Facts n present c connection)
       (λ session e. by_cut client.session.is_cut session e)
     where
       by_found : (found : Option Waiter) → waiter_in client thread ≡ found → (session : Session)
@@ -132,7 +134,7 @@ module _ (n : ℕ) (peak : ChannelOf → ℕ) (client : Client) (connection : Co
           (with_waiter thread (Some (new_waiter mode want (next_count client.session.turn)))
           (record client.session { turn = next_count client.session.turn }))
           session
-          (begun n peak client connection facts thread within
+          (begun n present client connection facts thread within
           (new_waiter mode want (next_count client.session.turn)) (next_count client.session.turn)
           e refl refl) f
 
@@ -145,9 +147,9 @@ module _ (n : ℕ) (peak : ChannelOf → ℕ) (client : Client) (connection : Co
 
   -- ask
   pub facts_ask : (moment : ℕ) (after : Client)
-      → client_row (ask_row thread moment) client ≡ Some after → Facts n peak after connection
+      → client_row (ask_row thread moment) client ≡ Some after → Facts n present after connection
   facts_ask moment after =
-      applies (ask_row thread moment) client after (λ c. Facts n peak c connection)
+      applies (ask_row thread moment) client after (λ c. Facts n present c connection)
       (λ session e.
       of_request (λ waiter. ask_at thread moment client.session waiter waiter.stage) client thread
       session (With session) (λ waiter was f. by waiter was waiter.stage refl session f) e)
@@ -157,9 +159,9 @@ module _ (n : ℕ) (peak : ChannelOf → ℕ) (client : Client) (connection : Co
           → With (with_stage thread waiter
           (Asked (asking_for thread moment want waiter client.session)) client.session)
       asks waiter was want old not_asked =
-          awoken n peak client connection facts thread within waiter was
+          awoken n present client connection facts thread within waiter was
           (Asked (asking_for thread moment want waiter client.session)) client.session.turn tt old
-          refl not_asked refl
+          refl not_asked refl (omega arith)
 
       by : (waiter : Waiter) → waiter_in client thread ≡ Some waiter → (stage : Stage)
           → waiter.stage ≡ stage → (session : Session)
@@ -179,22 +181,24 @@ module _ (n : ℕ) (peak : ChannelOf → ℕ) (client : Client) (connection : Co
   -- a reply comes: the server has executed the call
   pub facts_answered : (asking : Asking) (reply : Reply) → asked_of client thread ≡ Some asking
       → ((waiter : Waiter) → waiter_in client thread ≡ Some waiter
-      → IsInTime peak client thread waiter asking reply)
-      → Facts n peak (with_reply thread (Some reply) client) connection
-  facts_answered asking reply asked in_time =
+      → IsInTime present.peak client thread waiter asking reply)
+      → ((waiter : Waiter) → waiter_in client thread ≡ Some waiter
+      → IsLeftWaiting present (owner_in client.session thread) waiter.want asking.at reply)
+      → Facts n present (with_reply thread (Some reply) client) connection
+  facts_answered asking reply asked in_time waits =
       by_found (waiter_in client thread) refl (client.replies thread) asked
     where
       by_stage : (waiter : Waiter) → waiter_in client thread ≡ Some waiter → (stage : Stage)
           → waiter.stage ≡ stage → (old : Option Reply) → asked_at stage old ≡ Some asking
-          → Facts n peak (with_reply thread (Some reply) client) connection
+          → Facts n present (with_reply thread (Some reply) client) connection
       by_stage waiter was (Asked other) e None f =
-          answered n peak client connection facts thread within waiter was asking reply
-          (e ∙ ap Asked (same_Some other asking f)) (in_time waiter was)
+          answered n present client connection facts thread within waiter was asking reply
+          (e ∙ ap Asked (same_Some other asking f)) (in_time waiter was) (waits waiter was)
       by_stage waiter was _ e old f = absurd (never asking f)
 
       by_found : (found : Option Waiter) → waiter_in client thread ≡ found
           → (old : Option Reply) → asked_by found old ≡ Some asking
-          → Facts n peak (with_reply thread (Some reply) client) connection
+          → Facts n present (with_reply thread (Some reply) client) connection
       by_found None e old f = absurd (never asking f)
       by_found (Some waiter) e old f = by_stage waiter e waiter.stage refl old f
 
@@ -217,24 +221,24 @@ module _ (n : ℕ) (peak : ChannelOf → ℕ) (client : Client) (connection : Co
     -- it may ask once more
     readied : With (with_ticket thread waiter Ready client.session)
     readied =
-        awoken n peak client connection facts thread within waiter was
+        awoken n present client connection facts thread within waiter was
         (Ready (next_count client.session.turn)) (next_count client.session.turn) inside old refl
-        not_asked refl
+        not_asked refl (omega arith)
 
     readied_by_permit : With (with_ticket thread waiter Ready
         (with_latches
         (take_permit_at (channel_in client.session thread waiter) client.session.latches)
         client.session))
     readied_by_permit =
-        permitted n peak client connection facts thread within waiter was
+        permitted n present client connection facts thread within waiter was
         (Ready (next_count client.session.turn)) (next_count client.session.turn) inside inside old
-        refl not_asked refl
+        refl not_asked refl (omega arith)
 
   -- check
   pub facts_check : (now : ℕ) (after : Client)
-      → client_row (check_row thread now) client ≡ Some after → Facts n peak after connection
+      → client_row (check_row thread now) client ≡ Some after → Facts n present after connection
   facts_check now after =
-      applies (check_row thread now) client after (λ c. Facts n peak c connection)
+      applies (check_row thread now) client after (λ c. Facts n present c connection)
       (λ session e.
       of_request (λ waiter. check_at thread now client.session waiter waiter.stage) client thread
       session (With session) (λ waiter was f. by waiter was waiter.stage refl session f) e)
@@ -243,7 +247,7 @@ module _ (n : ℕ) (peak : ChannelOf → ℕ) (client : Client) (connection : Co
           → waiter.stage ≡ Refused refusal → (found : Checked)
           → With (checked thread waiter refusal client.session found)
       finds waiter was refusal e checks.Sleep =
-          slept n peak client connection facts thread within waiter was refusal e
+          slept n present client connection facts thread within waiter was refusal e
       finds waiter was refusal e checks.Permit =
           readied_by_permit waiter was (inside_refused waiter was refusal e) (ap is_joining_at e)
           (ap is_asked_at e)
@@ -265,9 +269,9 @@ module _ (n : ℕ) (peak : ChannelOf → ℕ) (client : Client) (connection : Co
 
   -- wake
   pub facts_wake : (after : Client) → client_row (wake_row thread) client ≡ Some after
-      → Facts n peak after connection
+      → Facts n present after connection
   facts_wake after =
-      applies (wake_row thread) client after (λ c. Facts n peak c connection)
+      applies (wake_row thread) client after (λ c. Facts n present c connection)
       (λ session e.
       of_request (λ waiter. wake_at thread client.session waiter waiter.stage) client thread session
       (With session) (λ waiter was f. by waiter was waiter.stage refl session f) e)
@@ -295,9 +299,9 @@ module _ (n : ℕ) (peak : ChannelOf → ℕ) (client : Client) (connection : Co
 
   -- fire
   pub facts_fire : (now : ℕ) (after : Client)
-      → client_row (fire_row thread now) client ≡ Some after → Facts n peak after connection
+      → client_row (fire_row thread now) client ≡ Some after → Facts n present after connection
   facts_fire now after =
-      applies (fire_row thread now) client after (λ c. Facts n peak c connection)
+      applies (fire_row thread now) client after (λ c. Facts n present c connection)
       (λ session e.
       of_request (λ waiter. fire_at thread now client.session waiter waiter.stage) client thread
       session (With session) (λ waiter was f. by waiter was waiter.stage refl session f) e)
@@ -321,9 +325,9 @@ module _ (n : ℕ) (peak : ChannelOf → ℕ) (client : Client) (connection : Co
 
   -- quit
   pub facts_quit : (after : Client) → client_row (quit_row thread) client ≡ Some after
-      → Facts n peak after connection
+      → Facts n present after connection
   facts_quit after =
-      applies (quit_row thread) client after (λ c. Facts n peak c connection)
+      applies (quit_row thread) client after (λ c. Facts n present c connection)
       (λ session e.
       of_request (λ waiter. quit_at thread client.session waiter waiter.stage) client thread session
       (With session) (λ waiter was f. by waiter was waiter.stage refl session f) e)
@@ -341,14 +345,14 @@ module _ (n : ℕ) (peak : ChannelOf → ℕ) (client : Client) (connection : Co
               client.session
               else client.session))
           by_registered true e =
-              left n peak client connection facts thread within waiter was (client.replies thread) _
+              left n present client connection facts thread within waiter was (client.replies thread) _
               (changes_waiter thread None client
               (with_latches
               (leave_at (channel_in client.session thread waiter) client.session.latches)
               client.session) refl refl)
               (no_reply client thread waiter was not_asked facts.answered) e refl
           by_registered false e =
-              ended n peak client connection facts thread within waiter was (client.replies thread) _
+              ended n present client connection facts thread within waiter was (client.replies thread) _
               (changes_waiter thread None client client.session refl refl)
               (no_reply client thread waiter was not_asked facts.answered) e refl
 
@@ -368,17 +372,17 @@ module _ (n : ℕ) (peak : ChannelOf → ℕ) (client : Client) (connection : Co
   -- the facts of a client with this session whose thread has taken its reply
   abbrev Then : Session → Type 0
   Then session =
-      Facts (suc n) peak (record (with_reply thread None client) { session = session }) connection
+      Facts (suc n) present (record (with_reply thread None client) { session = session }) connection
 
   then_later : (session : Session)
-      → Facts n peak (record (with_reply thread None client) { session = session }) connection
+      → Facts n present (record (with_reply thread None client) { session = session }) connection
       → Then session
   then_later session =
-      facts_later n peak (record (with_reply thread None client) { session = session }) connection
+      facts_later n present (record (with_reply thread None client) { session = session }) connection
 
   -- take
   pub facts_take : (after : Client) → suc n < 2 ^ 64 → take_reply thread client ≡ Some after
-      → Facts (suc n) peak after connection
+      → Facts (suc n) present after connection
   facts_take after few = by_reply (client.replies thread) refl
     where
       -- the request ends
@@ -400,7 +404,7 @@ module _ (n : ℕ) (peak : ChannelOf → ℕ) (client : Client) (connection : Co
               watched _ asking (key_in client.session thread waiter.want) Then
               (λ watches generation.
               then_later _
-              (left n peak client connection facts thread within waiter was None _
+              (left n present client connection facts thread within waiter was None _
               (changes_both thread None None client
               (record
               (with_latches
@@ -414,7 +418,7 @@ module _ (n : ℕ) (peak : ChannelOf → ℕ) (client : Client) (connection : Co
               watched _ asking (key_in client.session thread waiter.want) Then
               (λ watches generation.
               then_later _
-              (ended n peak client connection facts thread within waiter was None _
+              (ended n present client connection facts thread within waiter was None _
               (changes_both thread None None client
               (record client.session { watches = watches; generation = generation }) refl refl)
               refl e refl))
@@ -455,7 +459,7 @@ module _ (n : ℕ) (peak : ChannelOf → ℕ) (client : Client) (connection : Co
               (register_at (channel_in client.session thread waiter) client.session.latches)
               client.session))
           by true e =
-              registers n peak client connection facts thread within waiter was
+              registers n present client connection facts thread within waiter was
               (record {
                 mode = waiter.mode;
                 want = waiter.want;
@@ -470,9 +474,9 @@ module _ (n : ℕ) (peak : ChannelOf → ℕ) (client : Client) (connection : Co
               client.session) {
                 turn = next_count client.session.turn;
               }) refl refl)
-              outside refl refl refl (ap not (sym e)) refl refl
+              outside refl refl refl (ap not (sym e)) refl refl refl
           by false e =
-              registers n peak client connection facts thread within waiter was
+              registers n present client connection facts thread within waiter was
               (record {
                 mode = waiter.mode;
                 want = waiter.want;
@@ -484,7 +488,7 @@ module _ (n : ℕ) (peak : ChannelOf → ℕ) (client : Client) (connection : Co
               (with_latches
               (register_at (channel_in client.session thread waiter) client.session.latches)
               client.session) refl refl)
-              outside refl refl refl (ap not (sym e)) refl refl
+              outside refl refl refl (ap not (sym e)) refl refl refl
 
       by_waits : (waiter : Waiter) → waiter_in client thread ≡ Some waiter → (asking : Asking)
           → waiter.stage ≡ Asked asking → (reply : Reply) → client.replies thread ≡ Some reply
@@ -503,7 +507,7 @@ module _ (n : ℕ) (peak : ChannelOf → ℕ) (client : Client) (connection : Co
               else registered thread waiter client.session)
           by_registered true f =
               then_later _
-              (refused_again n peak client connection facts thread within waiter was asking reply
+              (refused_again n present client connection facts thread within waiter was asking reply
               asked replied
               (and_parts (may_wait waiter.mode) (blocks reply waiter.want.function) e).1 f)
           by_registered false f = registering waiter was f
@@ -518,11 +522,11 @@ module _ (n : ℕ) (peak : ChannelOf → ℕ) (client : Client) (connection : Co
       by_stage waiter was _ e reply replied session f = absurd (never session f)
 
       by_reply : (found : Option Reply) → client.replies thread ≡ found
-          → take_with thread found client ≡ Some after → Facts (suc n) peak after connection
+          → take_with thread found client ≡ Some after → Facts (suc n) present after connection
       by_reply None e f = absurd (never after f)
       by_reply (Some reply) e f =
           applies (take_row thread reply) (with_reply thread None client) after
-          (λ c. Facts (suc n) peak c connection)
+          (λ c. Facts (suc n) present c connection)
           (λ session g.
           of_request (λ waiter. take_at thread reply client.session waiter waiter.stage) client
           thread session (Then session)

@@ -2,7 +2,7 @@
 -- after a cut.
 use Rattle.std.proofs.Common.{◌≡◌, ℕ, zero, suc, ◌+◌, ◌<◌, ◌≤◌, ◌^◌, nat_lt, List, [], ◌∷◌, drop, slice_get, Bool, true, false, not, ◌&&◌, ◌||◌, Option, Some, None, refl, ap, sym, ◌∙◌, subst, arith, if◌then◌else◌}
 use Rattle.std.specs.List.{list_any}
-use Rattle.std.proofs.lemmas.Bool.{and_parts, false≢true, ne_eqb}
+use Rattle.std.proofs.lemmas.Bool.{and_parts, and_from, false≢true, ne_eqb}
 use Rattle.std.proofs.lemmas.List.Folds.{list_any-append}
 use Rattle.std.proofs.lemmas.Option.{same_Some}
 use Rattle.lr_limits.specs.Limits.{thread_limit}
@@ -30,18 +30,22 @@ use Rattle.lr_wakeups.specs.Outstanding.{IsAccounted}
 use Rattle.lr_wakeups.specs.Orders.{OrdersMatch, IsHeard, connection_after_order}
 use Rattle.lr_wakeups.specs.Joining.{PlacedWith, PlacedIn}
 use Rattle.lr_wakeups.specs.Standing.{is_blocked_at, blocked_with, is_blocked, Stands, IsCovered, ByMessage, ByPermit, ByAwake, ByTimer}
+use Rattle.lr_wakeups.specs.Registered.{registered_with, is_registered}
+use Rattle.lr_wakeups.specs.Reached.{Present, ReachedWith, GoesOn, seen_at}
 use Rattle.lr_wakeups.specs.Facts.{Facts}
 use Rattle.lr_wakeups.proofs.Entries.{delivered_by}
 use Rattle.lr_wakeups.proofs.Outstanding.{unacknowledged}
 use Rattle.lr_wakeups.proofs.Heard.{is_heard}
 use Rattle.lr_wakeups.proofs.ChannelFacts.{order_for}
 use Rattle.lr_wakeups.proofs.EntryChanges.{ChangesEntry, entry_put, by_channel, registered_acknowledged, permits_acknowledged, registered_delivered, heard_delivered, permit_delivered}
-use Rattle.lr_wakeups.proofs.LatchFacts.{LatchFacts, latch_facts_at_start, latch_facts_posted, latch_facts_executed, latch_facts_acknowledged, latch_facts_unsubscribed, latch_facts_delivered}
+use Rattle.lr_wakeups.proofs.LatchFacts.{LatchFacts, latch_facts_at_start, latch_facts_later, latch_facts_posted, latch_facts_executed, latch_facts_acknowledged, latch_facts_unsubscribed, latch_facts_delivered}
 use Rattle.lr_wakeups.proofs.Registered.{counts_same, counts_one}
 use Rattle.lr_wakeups.proofs.Answered.{answered_same}
 use Rattle.lr_wakeups.proofs.Standing.{blocked_registered, covered_alike}
-use Rattle.lr_wakeups.proofs.Joined.{joined_client, joined_registered, joined_blocked, joined_awake, joined_due, joined_asked, joined_placed}
+use Rattle.lr_wakeups.proofs.Joined.{joined_client, joined_registered, joined_blocked, joined_awake, joined_due, joined_asked, joined_placed, joined_reached}
 use Rattle.lr_wakeups.proofs.Relatched.{relatched, cover_threads, count_relatched, place_relatched, answer_relatched, cover_relatched}
+use Rattle.lr_wakeups.proofs.Reached.{number_acknowledged, number_delivered, number_handed_on, few_acknowledged, few_delivered, reached_moved, reached_later, reached_there}
+use Rattle.lr_wakeups.proofs.Rows.{facts_later}
 use Rattle.lr_wakeups.proofs.ThreadSteps.{latch_facts}
 
 -- A thread that was refused hears its channel.
@@ -87,8 +91,16 @@ first_item [] push e = absurd (none_some e)
     none_some f = absurd (cc f)
 first_item (item ∷ box) push e = ap (λ p. p ∷ box) (same_Some item push e)
 
-module _ (n : ℕ) (peak : ChannelOf → ℕ) (client : Client) (connection : Connection)
-    (facts : Facts n peak client connection) where
+one_all : One ≡ All → ⊥
+one_all e = absurd (cc e)
+
+-- what goes on, and isn't so afterwards, wasn't so
+unless_on : (was is : Bool) → (was ≡ true → is ≡ true) → is ≡ false → was ≡ false
+unless_on true is on off = absurd (false≢true (sym off ∙ on refl))
+unless_on false is on off = refl
+
+module _ (n : ℕ) (present : Present) (client : Client) (connection : Connection)
+    (facts : Facts n present client connection) where
   -- what a message stood by is among the rest, or was the first item
   flying : (q : ChannelOf) (push : Push) (rest : List Push) → connection.outbox ≡ push ∷ rest
       → is_message_on q push ≡ false → in_flight q connection.outbox ≡ true
@@ -96,10 +108,17 @@ module _ (n : ℕ) (peak : ChannelOf → ℕ) (client : Client) (connection : Co
   flying q push rest first other flies =
       ap (λ b. b || in_flight q rest) (sym other) ∙ sym (ap (in_flight q) first) ∙ flies
 
+  -- a message that isn't on its way afterwards wasn't before, or was that item
+  silent_before : (push : Push) (rest : List Push) → connection.outbox ≡ push ∷ rest
+      → ((q : ChannelOf) → is_message_on q push ≡ false) → (q : ChannelOf)
+      → in_flight q rest ≡ false → in_flight q connection.outbox ≡ false
+  silent_before push rest first other q quiet =
+      ap (in_flight q) first ∙ ap (λ b. b || in_flight q rest) (other q) ∙ quiet
+
   -- an order to leave a channel was acknowledged
   unsubscribed_comes : (channel : Option ChannelOf) (count : ℕ) (rest : List Push)
       → connection.outbox ≡ Unsubscribed channel count ∷ rest
-      → Facts n peak client (record connection { outbox = rest })
+      → Facts n present client (record connection { outbox = rest })
   unsubscribed_comes channel count rest first = record {
     accounted = latched.accounted;
     matched = latched.matched;
@@ -108,24 +127,29 @@ module _ (n : ℕ) (peak : ChannelOf → ℕ) (client : Client) (connection : Co
     placed = facts.placed;
     answered = facts.answered;
     covered = λ q.
-        cover_threads (peak q) q client client connection (record connection { outbox = rest })
+        cover_threads (present.peak q) q client client connection (record connection { outbox = rest })
         (λ t blocked. blocked) (λ t awake. awake) (λ t m due. due) (λ some. some)
         (λ one t within blocked flies.
         ByMessage (flying q (Unsubscribed channel count) rest first refl flies))
         (facts.covered q);
+    few = facts.few;
+    reached = λ t within.
+        reached_there present client client.session.latches.entries connection.outbox rest t
+        (λ q there. refl) (silent_before (Unsubscribed channel count) rest first (λ q. refl))
+        (waiter_in client t) refl (facts.reached t within);
   }
     where
       latched : LatchFacts n client.session.latches (record connection { outbox = rest })
       latched =
           latch_facts_unsubscribed n client.session.latches connection rest
-          (latch_facts n peak client connection facts) channel count first
+          (latch_facts n present client connection facts) channel count first
 
   -- a message comes
-  message_comes : (channel : ChannelOf) (wakes : Wakes) (rest : List Push)
+  message_comes : (channel : ChannelOf) (wakes : Wakes) (rest : List Push) → suc n < 2 ^ 64
       → connection.outbox ≡ Message channel wakes ∷ rest
-      → Facts n peak (relatched (deliver_at channel client.session.latches) client)
+      → Facts (suc n) present (relatched (deliver_at channel client.session.latches) client)
       (record connection { outbox = rest })
-  message_comes channel wakes rest first = record {
+  message_comes channel wakes rest bound first = record {
     accounted = latched.accounted;
     matched = latched.matched;
     bounded = latched.bounded;
@@ -133,18 +157,22 @@ module _ (n : ℕ) (peak : ChannelOf → ℕ) (client : Client) (connection : Co
     placed = λ t within. place_relatched latches client heard t within (facts.placed t within);
     answered = λ t. answer_relatched latches client t (facts.answered t);
     covered = λ q.
-        cover_relatched latches client (peak q) q connection (record connection { outbox = rest })
+        cover_relatched latches client (present.peak q) q connection (record connection { outbox = rest })
         (permits q) (message q) (facts.covered q);
+    few = few;
+    reached = λ t within. hears t within (waiter_in client t) refl (facts.reached t within);
   }
     where
       latches : Latches
       latches = deliver_at channel client.session.latches
 
-      latched : LatchFacts n (deliver_at channel client.session.latches)
+      latched : LatchFacts (suc n) (deliver_at channel client.session.latches)
           (record connection { outbox = rest })
       latched =
-          latch_facts_delivered n client.session.latches connection rest
-          (latch_facts n peak client connection facts) channel wakes first
+          latch_facts_later n (deliver_at channel client.session.latches)
+          (record connection { outbox = rest })
+          (latch_facts_delivered n client.session.latches connection rest
+          (latch_facts n present client connection facts) channel wakes first)
 
       entry : ChangesEntry channel
           (deliver_in (channel_wakes channel.kind) (client.session.latches.entries channel))
@@ -198,12 +226,12 @@ module _ (n : ℕ) (peak : ChannelOf → ℕ) (client : Client) (connection : Co
 
       message : (q : ChannelOf) → channel_wakes q.kind ≡ One → (t : ℕ) → t ≤ thread_limit
           → is_blocked q client t ≡ true → in_flight q connection.outbox ≡ true
-          → Stands (peak q) q (relatched (deliver_at channel client.session.latches) client)
+          → Stands (present.peak q) q (relatched (deliver_at channel client.session.latches) client)
           (record connection { outbox = rest })
       message q one t within blocked flies = by (same_channel q channel) refl
         where
           by : (b : Bool) → same_channel q channel ≡ b
-              → Stands (peak q) q (relatched (deliver_at channel client.session.latches) client)
+              → Stands (present.peak q) q (relatched (deliver_at channel client.session.latches) client)
               (record connection { outbox = rest })
           by false e = ByMessage (flying q (Message channel wakes) rest first e flies)
           by true e =
@@ -220,6 +248,108 @@ module _ (n : ℕ) (peak : ChannelOf → ℕ) (client : Client) (connection : Co
               (subst (λ (x : LatchEntry). 0 < x.permits) (sym here)
               (permit_delivered (client.session.latches.entries q) waits))
 
+      few : (q : ChannelOf)
+          → ((deliver_at channel client.session.latches).entries q).broadcast ≤ suc n
+      few =
+          by_channel (λ q x. x.broadcast ≤ suc n) channel
+          (deliver_in (channel_wakes channel.kind) (client.session.latches.entries channel))
+          client.session.latches.entries (deliver_at channel client.session.latches).entries entry
+          (few_delivered n (channel_wakes channel.kind) (client.session.latches.entries channel)
+          (facts.few channel) bound)
+          (λ q other. omega (arith, facts.few q))
+
+      -- the entry of a thread that waits there has one message more
+      heard_here : (t : ℕ) → t ≤ thread_limit → (q : ChannelOf) → is_registered q client t ≡ true
+          → same_channel q channel ≡ true → channel_wakes q.kind ≡ All
+          → ((deliver_at channel client.session.latches).entries q).broadcast
+          ≡ suc (client.session.latches.entries q).broadcast
+      heard_here t within q there e all =
+          let is : q ≡ channel = same_is q channel e in
+          ap (λ c. ((deliver_at channel client.session.latches).entries c).broadcast) is
+          ∙ ap (λ (x : LatchEntry). x.broadcast) entry.here
+          ∙ ap (λ (c : ChannelOf). (deliver_in (channel_wakes c.kind)
+          (client.session.latches.entries c)).broadcast) (sym is)
+          ∙ ap (λ w. (deliver_in w (client.session.latches.entries q)).broadcast) all
+          ∙ number_delivered n (client.session.latches.entries q) (facts.few q) bound
+          (counts_one q client t within (facts.counted q) there)
+
+      -- where a message wakes one, it is no other number
+      handed_on : (q : ChannelOf) → channel_wakes q.kind ≡ One → same_channel q channel ≡ true
+          → ((deliver_at channel client.session.latches).entries q).broadcast
+          ≡ (client.session.latches.entries q).broadcast
+      handed_on q one e =
+          let is : q ≡ channel = same_is q channel e in
+          ap (λ c. ((deliver_at channel client.session.latches).entries c).broadcast) is
+          ∙ ap (λ (x : LatchEntry). x.broadcast) entry.here
+          ∙ ap (λ (c : ChannelOf). (deliver_in (channel_wakes c.kind)
+          (client.session.latches.entries c)).broadcast) (sym is)
+          ∙ ap (λ w. (deliver_in w (client.session.latches.entries q)).broadcast) one
+          ∙ number_handed_on (client.session.latches.entries q)
+
+      hears : (t : ℕ) → t ≤ thread_limit → (found : Option Waiter) → waiter_in client t ≡ found
+          → ReachedWith present client.session.client client.session.latches.entries
+          connection.outbox t (client.replies t) found
+          → ReachedWith present client.session.client
+          (deliver_at channel client.session.latches).entries rest t (client.replies t) found
+      hears t within None was reached = tt
+      hears t within (Some waiter) was reached =
+          by (same_channel q channel) refl (channel_wakes q.kind) refl
+        where
+          q : ChannelOf
+          q = channel_in client.session t waiter
+
+          number : ℕ
+          number = ((deliver_at channel client.session.latches).entries
+              (channel_in client.session t waiter)).broadcast
+
+          there : waiter.registered ≡ true
+              → is_registered (channel_in client.session t waiter) client t ≡ true
+          there inside =
+              ap (registered_with (channel_in client.session t waiter) client t) was
+              ∙ and_from waiter.registered
+              (same_channel (channel_in client.session t waiter)
+              (channel_in client.session t waiter))
+              inside (same_self (channel_in client.session t waiter))
+
+          by : (b : Bool) → same_channel (channel_in client.session t waiter) channel ≡ b
+              → (w : Wakes) → channel_wakes (channel_in client.session t waiter).kind ≡ w
+              → ReachedWith present client.session.client
+              (deliver_at channel client.session.latches).entries rest t (client.replies t)
+              (Some waiter)
+          by false e w f =
+              reached_moved present client.session.client t client.session.latches.entries
+              (deliver_at channel client.session.latches).entries connection.outbox rest
+              (client.replies t) waiter
+              (λ inside.
+              ap (λ (x : LatchEntry). x.broadcast)
+              (entry.there (channel_in client.session t waiter) e))
+              (λ quiet.
+              ap (in_flight (channel_in client.session t waiter)) first
+              ∙ ap (λ b. b || in_flight (channel_in client.session t waiter) rest) e ∙ quiet)
+              reached
+          by true e One f = record {
+            noted = λ inside.
+                subst (λ k. seen_at waiter.stage ≤ k)
+                (sym (handed_on (channel_in client.session t waiter) f e)) (reached.noted inside);
+            waits = λ inside all blocked silent now. absurd (one_all (sym f ∙ all));
+          }
+          by true e All f = record {
+            noted = λ inside.
+                omega (
+                  arith,
+                  reached.noted inside,
+                  heard_here t within (channel_in client.session t waiter) (there inside) e f,
+                );
+            waits = λ inside all blocked silent now.
+                absurd
+                (omega (
+                  arith,
+                  reached.noted inside,
+                  now,
+                  heard_here t within (channel_in client.session t waiter) (there inside) e f,
+                ));
+          }
+
   -- an order to subscribe was acknowledged
   module _ (channel : ChannelOf) (count : ℕ) (rest : List Push) (few : n < 2 ^ 64)
       (first : connection.outbox ≡ Subscribed channel count ∷ rest) where
@@ -227,7 +357,7 @@ module _ (n : ℕ) (peak : ChannelOf → ℕ) (client : Client) (connection : Co
         (record connection { outbox = rest })
     latched_acknowledged =
         latch_facts_acknowledged n client.session.latches connection rest
-        (latch_facts n peak client connection facts) channel count few first
+        (latch_facts n present client connection facts) channel count few first
 
     entry_acknowledged : ChangesEntry channel
         (acknowledge_in (client.session.latches.entries channel)) client.session.latches.entries
@@ -272,7 +402,42 @@ module _ (n : ℕ) (peak : ChannelOf → ℕ) (client : Client) (connection : Co
         (facts.bounded channel).few)
         (λ q other some. some)
 
-    acknowledged_comes : Facts n peak
+    -- where threads wait, the number of messages stays
+    number_then : (t : ℕ) → t ≤ thread_limit → (q : ChannelOf) → is_registered q client t ≡ true
+        → ((acknowledge_at channel client.session.latches).entries q).broadcast
+        ≡ (client.session.latches.entries q).broadcast
+    number_then t within =
+        by_channel
+        (λ q x. is_registered q client t ≡ true
+        → x.broadcast ≡ (client.session.latches.entries q).broadcast)
+        channel (acknowledge_in (client.session.latches.entries channel))
+        client.session.latches.entries (acknowledge_at channel client.session.latches).entries
+        entry_acknowledged
+        (λ there.
+        number_acknowledged (client.session.latches.entries channel)
+        (counts_one channel client t within (facts.counted channel) there))
+        (λ q other there. refl)
+
+    few_then : (q : ChannelOf)
+        → ((acknowledge_at channel client.session.latches).entries q).broadcast ≤ n
+    few_then =
+        by_channel (λ q x. x.broadcast ≤ n) channel
+        (acknowledge_in (client.session.latches.entries channel)) client.session.latches.entries
+        (acknowledge_at channel client.session.latches).entries entry_acknowledged
+        (few_acknowledged n (client.session.latches.entries channel) (facts.few channel))
+        (λ q other. facts.few q)
+
+    reached_then : (t : ℕ) → t ≤ thread_limit
+        → ReachedWith present client.session.client
+        (acknowledge_at channel client.session.latches).entries rest t (client.replies t)
+        (waiter_in client t)
+    reached_then t within =
+        reached_there present client (acknowledge_at channel client.session.latches).entries
+        connection.outbox rest t (number_then t within)
+        (silent_before (Subscribed channel count) rest first (λ q. refl)) (waiter_in client t) refl
+        (facts.reached t within)
+
+    acknowledged_comes : Facts n present
         (record client { session = acknowledged channel client.session })
         (record connection { outbox = rest })
     acknowledged_comes =
@@ -280,7 +445,7 @@ module _ (n : ℕ) (peak : ChannelOf → ℕ) (client : Client) (connection : Co
       where
         by : (hears : Bool)
             → is_subscribed (acknowledge_in (client.session.latches.entries channel)) ≡ hears
-            → Facts n peak
+            → Facts n present
             (record client {
               session = if hears
                   then with_joined channel
@@ -308,11 +473,13 @@ module _ (n : ℕ) (peak : ChannelOf → ℕ) (client : Client) (connection : Co
               answer_relatched (acknowledge_at channel client.session.latches) client t
               (facts.answered t);
           covered = λ q.
-              cover_relatched (acknowledge_at channel client.session.latches) client (peak q) q
+              cover_relatched (acknowledge_at channel client.session.latches) client (present.peak q) q
               connection (record connection { outbox = rest }) (permits_then q)
               (λ one t within blocked flies.
               ByMessage (flying q (Subscribed channel count) rest first refl flies))
               (facts.covered q);
+          few = few_then;
+          reached = reached_then;
         }
         by true e = record {
           accounted = latched_acknowledged.accounted;
@@ -327,33 +494,38 @@ module _ (n : ℕ) (peak : ChannelOf → ℕ) (client : Client) (connection : Co
           answered = answered_same client (joined_client channel client)
               (joined_asked channel client) (λ t. refl) facts.answered;
           covered = λ q.
-              cover_threads (peak q) q client (joined_client channel client) connection
+              cover_threads (present.peak q) q client (joined_client channel client) connection
               (record connection { outbox = rest }) (joined_blocked channel client q)
               (joined_awake channel client q) (joined_due channel client q) (permits_then q)
               (λ one t within blocked flies.
               ByMessage (flying q (Subscribed channel count) rest first refl flies))
               (facts.covered q);
+          few = few_then;
+          reached = λ t within.
+              joined_reached channel client present rest t (reached_then t within);
         }
 
   -- the client takes the oldest item
-  pub facts_push : (push : Push) → n < 2 ^ 64 → slice_get connection.outbox 0 ≡ Some push
-      → Facts n peak (record client { session = pushed push client.session })
+  pub facts_push : (push : Push) → suc n < 2 ^ 64 → slice_get connection.outbox 0 ≡ Some push
+      → Facts (suc n) present (record client { session = pushed push client.session })
       (connection_after_drain 1 connection)
   facts_push push few at = by push (first_item connection.outbox push at)
     where
       by : (p : Push) → connection.outbox ≡ p ∷ drop 1 connection.outbox
-          → Facts n peak (record client { session = pushed p client.session })
+          → Facts (suc n) present (record client { session = pushed p client.session })
           (connection_after_drain 1 connection)
       by (Subscribed channel count) first =
-          acknowledged_comes channel count (drop 1 connection.outbox) few first
+          facts_later n present _ (connection_after_drain 1 connection)
+          (acknowledged_comes channel count (drop 1 connection.outbox) (omega (arith, few)) first)
       by (Unsubscribed channel count) first =
-          unsubscribed_comes channel count (drop 1 connection.outbox) first
+          facts_later n present client (connection_after_drain 1 connection)
+          (unsubscribed_comes channel count (drop 1 connection.outbox) first)
       by (Message channel wakes) first =
-          message_comes channel wakes (drop 1 connection.outbox) first
+          message_comes channel wakes (drop 1 connection.outbox) few first
 
   -- the server executes the oldest order
   pub facts_order : (order : Order) → first_order_of client.session.latches ≡ Some order
-      → Facts n peak (record client { session = order_taken client.session })
+      → Facts n present (record client { session = order_taken client.session })
       (connection_after_order order connection)
   facts_order order at = by client.session.latches.orders refl at
     where
@@ -369,7 +541,7 @@ module _ (n : ℕ) (peak : ChannelOf → ℕ) (client : Client) (connection : Co
 
       by : (orders : List Order) → client.session.latches.orders ≡ orders
           → slice_get orders 0 ≡ Some order
-          → Facts n peak (record client { session = order_taken client.session })
+          → Facts n present (record client { session = order_taken client.session })
           (connection_after_order order connection)
       by [] e f = absurd (none_some f)
         where
@@ -377,7 +549,7 @@ module _ (n : ℕ) (peak : ChannelOf → ℕ) (client : Client) (connection : Co
           none_some g = absurd (cc g)
       by (first ∷ rest) e f =
           subst
-          (λ o. Facts n peak (record client { session = order_taken client.session })
+          (λ o. Facts n present (record client { session = order_taken client.session })
           (connection_after_order o connection))
           (same_Some first order f) executed
         where
@@ -394,9 +566,9 @@ module _ (n : ℕ) (peak : ChannelOf → ℕ) (client : Client) (connection : Co
               (subst
               (λ os. LatchFacts n
               (record { entries = client.session.latches.entries; orders = os }) connection)
-              e (latch_facts n peak client connection facts)))
+              e (latch_facts n present client connection facts)))
 
-          executed : Facts n peak (record client { session = order_taken client.session })
+          executed : Facts n present (record client { session = order_taken client.session })
               (connection_after_order first connection)
           executed = record {
             accounted = latched.accounted;
@@ -412,19 +584,28 @@ module _ (n : ℕ) (peak : ChannelOf → ℕ) (client : Client) (connection : Co
                 answer_relatched (without_first_order client.session.latches) client t
                 (facts.answered t);
             covered = λ q.
-                cover_relatched (without_first_order client.session.latches) client (peak q) q
+                cover_relatched (without_first_order client.session.latches) client (present.peak q) q
                 connection (connection_after_order first connection) (λ some. some)
                 (λ one t within blocked flies.
                 ByMessage (flies_on first.subscribe first.channel q flies))
                 (facts.covered q);
+            few = facts.few;
+            reached = λ t within.
+                reached_there present client client.session.latches.entries connection.outbox
+                (connection_after_order first connection).outbox t (λ q there. refl)
+                (λ q quiet.
+                unless_on (in_flight q connection.outbox)
+                (in_flight q (connection_after_order first connection).outbox)
+                (flies_on first.subscribe first.channel q) quiet)
+                (waiter_in client t) refl (facts.reached t within);
           }
 
-  -- A message is sent to a channel, which may lower the peak of this channel alone: a subscribed
-  -- client has it on its way then.
-  pub facts_post : (post : Post) (then_ : ChannelOf → ℕ) → is_overrun post connection ≡ false
-      → ((q : ChannelOf) → same_channel q post.channel ≡ false → peak q ≤ then_ q)
+  -- A message is sent to a channel. On the others all goes on, and on this one a subscribed client
+  -- has it on its way then.
+  pub facts_post : (post : Post) (then_ : Present) → is_overrun post connection ≡ false
+      → GoesOn (λ q. same_channel q post.channel) present then_
       → Facts n then_ client (connection_after_post post connection)
-  facts_post post then_ room raised = record {
+  facts_post post then_ room goes = record {
     accounted = latched.accounted;
     matched = latched.matched;
     bounded = facts.bounded;
@@ -432,12 +613,14 @@ module _ (n : ℕ) (peak : ChannelOf → ℕ) (client : Client) (connection : Co
     placed = facts.placed;
     answered = facts.answered;
     covered = covered;
+    few = facts.few;
+    reached = λ t within. reaches t within (waiter_in client t) refl (facts.reached t within);
   }
     where
       latched : LatchFacts n client.session.latches (connection_after_post post connection)
       latched =
           latch_facts_posted n client.session.latches connection
-          (latch_facts n peak client connection facts) post room
+          (latch_facts n present client connection facts) post room
 
       -- what is on its way stays so
       flies_on : (q : ChannelOf) → in_flight q connection.outbox ≡ true
@@ -475,36 +658,95 @@ module _ (n : ℕ) (peak : ChannelOf → ℕ) (client : Client) (connection : Co
               ∙ or_true (in_flight post.channel connection.outbox)
           by true false is e = absurd (false≢true (sym e))
 
-      raises : (q : ChannelOf) → peak q ≤ then_ q → Stands (peak q) q client connection
-          → Stands (then_ q) q client (connection_after_post post connection)
+      -- who was refused on that channel hears it, so the message is on its way
+      told_blocked : (q : ChannelOf) (t : ℕ) → t ≤ thread_limit → is_blocked q client t ≡ true
+          → same_channel q post.channel ≡ true
+          → in_flight q (connection_after_post post connection).outbox ≡ true
+      told_blocked q t within blocked e =
+          ap (λ c. in_flight c (connection_after_post post connection).outbox)
+          (same_is q post.channel e)
+          ∙ flies_now
+          (ap (λ c. has_channel c connection) (sym (same_is q post.channel e))
+          ∙ (is_heard n q (client.session.latches.entries q) client.session.latches.orders
+          (has_channel q connection) connection.outbox (facts.accounted q) (facts.matched q)
+          (heard_where_blocked client q t (facts.placed t within) blocked)).subscribed)
+
+      raises : (q : ChannelOf) → present.peak q ≤ then_.peak q → Stands (present.peak q) q client connection
+          → Stands (then_.peak q) q client (connection_after_post post connection)
       raises q more (ByMessage flies) = ByMessage (flies_on q flies)
       raises q more (ByPermit some) = ByPermit some
       raises q more (ByAwake t within awake) = ByAwake t within awake
       raises q more (ByTimer t m within due few) = ByTimer t m within due (omega (arith, few, more))
 
       covered : (q : ChannelOf)
-          → IsCovered (then_ q) q client (connection_after_post post connection)
+          → IsCovered (then_.peak q) q client (connection_after_post post connection)
       covered q = by (same_channel q post.channel) refl
         where
           by : (b : Bool) → same_channel q post.channel ≡ b
-              → IsCovered (then_ q) q client (connection_after_post post connection)
+              → IsCovered (then_.peak q) q client (connection_after_post post connection)
           by false e =
-              covered_alike (peak q) (then_ q) q client client connection
+              covered_alike (present.peak q) (then_.peak q) q client client connection
               (connection_after_post post connection) (λ t blocked. blocked)
-              (λ one t within blocked. raises q (raised q e)) (facts.covered q)
+              (λ one t within blocked. raises q (goes.peaks q e)) (facts.covered q)
           by true e =
-              covered_alike (peak q) (then_ q) q client client connection
+              covered_alike (present.peak q) (then_.peak q) q client client connection
               (connection_after_post post connection) (λ t blocked. blocked)
-              (λ one t within blocked stood.
-              ByMessage
-              (ap (λ c. in_flight c (connection_after_post post connection).outbox)
-              (same_is q post.channel e)
-              ∙ flies_now
-              (ap (λ c. has_channel c connection) (sym (same_is q post.channel e))
-              ∙ (is_heard n q (client.session.latches.entries q) client.session.latches.orders
-              (has_channel q connection) connection.outbox (facts.accounted q) (facts.matched q)
-              (heard_where_blocked client q t (facts.placed t within) blocked)).subscribed)))
+              (λ one t within blocked stood. ByMessage (told_blocked q t within blocked e))
               (facts.covered q)
+
+      -- who waits on that channel and was refused is told
+      told_then : (t : ℕ) → t ≤ thread_limit → (waiter : Waiter)
+          → waiter_in client t ≡ Some waiter → waiter.registered ≡ true
+          → is_blocked_at waiter.stage (client.replies t) waiter.want.function ≡ true
+          → same_channel (channel_in client.session t waiter) post.channel ≡ true
+          → in_flight (channel_in client.session t waiter)
+          (connection_after_post post connection).outbox ≡ true
+      told_then t within waiter was inside blocked e =
+          let refused : is_blocked (channel_in client.session t waiter) client t ≡ true =
+          ap (blocked_with (channel_in client.session t waiter) client t) was
+          ∙ and_from
+          (waiter.registered
+          && same_channel (channel_in client.session t waiter)
+          (channel_in client.session t waiter))
+          (is_blocked_at waiter.stage (client.replies t) waiter.want.function)
+          (and_from waiter.registered
+          (same_channel (channel_in client.session t waiter)
+          (channel_in client.session t waiter))
+          inside (same_self (channel_in client.session t waiter)))
+          blocked in
+          told_blocked (channel_in client.session t waiter) t within refused e
+
+      reaches : (t : ℕ) → t ≤ thread_limit → (found : Option Waiter) → waiter_in client t ≡ found
+          → ReachedWith present client.session.client client.session.latches.entries
+          connection.outbox t (client.replies t) found
+          → ReachedWith then_ client.session.client client.session.latches.entries
+          (connection_after_post post connection).outbox t (client.replies t) found
+      reaches t within None was reached = tt
+      reaches t within (Some waiter) was reached =
+          by (same_channel (channel_in client.session t waiter) post.channel) refl
+        where
+          by : (b : Bool) → same_channel (channel_in client.session t waiter) post.channel ≡ b
+              → ReachedWith then_ client.session.client client.session.latches.entries
+              (connection_after_post post connection).outbox t (client.replies t) (Some waiter)
+          by false e =
+              reached_later present client.session.client t then_
+              (λ q. same_channel q post.channel) goes client.session.latches.entries
+              (connection_after_post post connection).outbox (client.replies t) waiter e
+              (reached_moved present client.session.client t client.session.latches.entries
+              client.session.latches.entries connection.outbox
+              (connection_after_post post connection).outbox (client.replies t) waiter
+              (λ inside. refl)
+              (λ quiet.
+              unless_on (in_flight (channel_in client.session t waiter) connection.outbox)
+              (in_flight (channel_in client.session t waiter)
+              (connection_after_post post connection).outbox)
+              (flies_on (channel_in client.session t waiter)) quiet)
+              reached)
+          by true e = record {
+            noted = reached.noted;
+            waits = λ inside all blocked silent now.
+                absurd (false≢true (sym silent ∙ told_then t within waiter was inside blocked e));
+          }
 
   -- where the client hears a channel, all is told
   pub facts_heard : (channel : ChannelOf)
@@ -516,10 +758,10 @@ module _ (n : ℕ) (peak : ChannelOf → ℕ) (client : Client) (connection : Co
       (has_channel channel connection) connection.outbox (facts.accounted channel)
       (facts.matched channel) heard
 
-  -- peaks may rise
-  pub facts_raised : (then_ : ChannelOf → ℕ) → ((q : ChannelOf) → peak q ≤ then_ q)
+  -- all goes on
+  pub facts_going_on : (then_ : Present) → GoesOn (λ q. false) present then_
       → Facts n then_ client connection
-  facts_raised then_ raised = record {
+  facts_going_on then_ goes = record {
     accounted = facts.accounted;
     matched = facts.matched;
     bounded = facts.bounded;
@@ -527,16 +769,28 @@ module _ (n : ℕ) (peak : ChannelOf → ℕ) (client : Client) (connection : Co
     placed = facts.placed;
     answered = facts.answered;
     covered = λ q.
-        covered_alike (peak q) (then_ q) q client client connection connection
-        (λ t blocked. blocked) (λ one t within blocked. raises q (raised q)) (facts.covered q);
+        covered_alike (present.peak q) (then_.peak q) q client client connection connection
+        (λ t blocked. blocked) (λ one t within blocked. raises q (goes.peaks q refl)) (facts.covered q);
+    few = facts.few;
+    reached = λ t within. reaches t (waiter_in client t) (facts.reached t within);
   }
     where
-      raises : (q : ChannelOf) → peak q ≤ then_ q → Stands (peak q) q client connection
-          → Stands (then_ q) q client connection
+      raises : (q : ChannelOf) → present.peak q ≤ then_.peak q → Stands (present.peak q) q client connection
+          → Stands (then_.peak q) q client connection
       raises q more (ByMessage flies) = ByMessage flies
       raises q more (ByPermit some) = ByPermit some
       raises q more (ByAwake t within awake) = ByAwake t within awake
       raises q more (ByTimer t m within due few) = ByTimer t m within due (omega (arith, few, more))
+
+      reaches : (t : ℕ) (found : Option Waiter)
+          → ReachedWith present client.session.client client.session.latches.entries
+          connection.outbox t (client.replies t) found
+          → ReachedWith then_ client.session.client client.session.latches.entries
+          connection.outbox t (client.replies t) found
+      reaches t None reached = tt
+      reaches t (Some waiter) reached =
+          reached_later present client.session.client t then_ (λ q. false) goes
+          client.session.latches.entries connection.outbox (client.replies t) waiter refl reached
 
 -- A client without threads: at the start, and once it was cut off.
 
@@ -546,9 +800,9 @@ none_below zero = refl
 none_below (suc n) = omega (arith, none_below n)
 
 -- the facts of a client that was cut off, whose connection was closed
-pub facts_cut : (n : ℕ) (peak : ChannelOf → ℕ) (client : Client)
-    → Facts n peak (cut_client client) closed_connection
-facts_cut n peak client = record {
+pub facts_cut : (n : ℕ) (present : Present) (client : Client)
+    → Facts n present (cut_client client) closed_connection
+facts_cut n present client = record {
   accounted = (latch_facts_at_start n).accounted;
   matched = (latch_facts_at_start n).matched;
   bounded = (latch_facts_at_start n).bounded;
@@ -556,13 +810,15 @@ facts_cut n peak client = record {
   placed = λ t within. record { placed = tt };
   answered = λ t. record { without = λ not_asked. refl };
   covered = λ q. record { stands = λ one t within blocked. absurd (false≢true blocked) };
+  few = λ q. omega arith;
+  reached = λ t within. tt;
 }
 
 -- before its first request, whether its connection is open or not
-pub facts_at_start : (n : ℕ) (peak : ChannelOf → ℕ) (id : List ℕ) (lease : ℕ)
+pub facts_at_start : (n : ℕ) (present : Present) (id : List ℕ) (lease : ℕ)
     (connection : Connection) → connection.channels ≡ [] → connection.outbox ≡ []
-    → Facts n peak (new_client id lease) connection
-facts_at_start n peak id lease connection no_channels no_items = record {
+    → Facts n present (new_client id lease) connection
+facts_at_start n present id lease connection no_channels no_items = record {
   accounted = λ q.
       subst (IsAccounted n q no_entry []) (sym no_items) ((latch_facts_at_start n).accounted q);
   matched = λ q.
@@ -573,4 +829,6 @@ facts_at_start n peak id lease connection no_channels no_items = record {
   placed = λ t within. record { placed = tt };
   answered = λ t. record { without = λ not_asked. refl };
   covered = λ q. record { stands = λ one t within blocked. absurd (false≢true blocked) };
+  few = λ q. omega arith;
+  reached = λ t within. tt;
 }

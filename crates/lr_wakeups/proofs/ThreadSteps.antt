@@ -1,6 +1,6 @@
 -- All facts after each step of a thread.
-use Rattle.std.proofs.Common.{◌≡◌, ℕ, suc, ◌+◌, ◌<◌, ◌≤◌, ◌^◌, true, false, not, ◌&&◌, Option, Some, None, refl, ap, sym, ◌∙◌, subst}
-use Rattle.std.proofs.lemmas.Bool.{and_parts, false≢true}
+use Rattle.std.proofs.Common.{◌≡◌, ℕ, suc, ◌+◌, ◌<◌, ◌≤◌, ◌^◌, true, false, not, ◌&&◌, Option, Some, None, refl, ap, sym, ◌∙◌, subst, arith}
+use Rattle.std.proofs.lemmas.Bool.{and_parts, and_from, false≢true}
 use Rattle.lr_limits.specs.Limits.{thread_limit}
 use Rattle.lr_names.specs.Channel.{ChannelOf, channel_wakes}
 use Rattle.lr_names.specs.declared.kind.Wakes.TheVariants.{One}
@@ -14,36 +14,38 @@ use Rattle.lr_waiting.specs.declared.waiter.Stage.TheVariants.{Asked, Refused, A
 use Rattle.lr_waiting.specs.declared.waiter.Waiter.{Waiter}
 use Rattle.lr_model.specs.Board.{Connection, same_channel}
 use Rattle.lr_waiting.specs.Latch.{Latches, is_subscribed, register_in, register_at, leave_in, leave_at, take_permit, take_permit_at}
-use Rattle.lr_waiting.specs.Session.{at_stage, channel_in, entry_for, with_waiter, with_stage, with_latches, is_joining_at, due_after}
+use Rattle.lr_waiting.specs.Session.{at_stage, owner_in, channel_in, entry_for, with_waiter, with_stage, with_latches, is_joining_at, due_after}
 use Rattle.lr_waiting.specs.Client.{Client, waiter_in, with_reply}
 use Rattle.lr_waiting.specs.Stand.{waits_at, is_awake_at, due_at, due_by_reply}
 use Rattle.lr_wakeups.specs.Registered.{registered_with, is_registered}
 use Rattle.lr_wakeups.specs.Joining.{FitsStage}
 use Rattle.lr_wakeups.specs.Answered.{asked_with, is_asked_at}
 use Rattle.lr_wakeups.specs.Standing.{is_blocked_at, IsCovered, IsInTime}
+use Rattle.lr_wakeups.specs.Reached.{Present, ReachedWith, IsLeftWaiting, seen_at}
 use Rattle.lr_wakeups.specs.Facts.{Facts}
-use Rattle.lr_model.proofs.SameChannel.{same_is}
+use Rattle.lr_model.proofs.SameChannel.{same_is, same_self}
 use Rattle.lr_wakeups.proofs.Tables.{put_here, put_there}
 use Rattle.lr_wakeups.proofs.EntryChanges.{ChangesEntry, entry_put, entry_left, entry_registered, by_channel, permits_registered}
 use Rattle.lr_wakeups.proofs.LatchFacts.{LatchFacts, latch_facts_registered, latch_facts_left, latch_facts_permit}
 use Rattle.lr_wakeups.proofs.Threads.{ChangesThread, changes_waiter, changes_both}
-use Rattle.lr_wakeups.proofs.Registered.{count_begun, count_restaged, count_ended, count_left, count_registered}
+use Rattle.lr_wakeups.proofs.Registered.{counts_two, count_begun, count_restaged, count_ended, count_left, count_registered}
 use Rattle.lr_wakeups.proofs.Joining.{place_begun, place_ended, placed_was, place_restaged, place_left, place_registered}
 use Rattle.lr_wakeups.proofs.Answered.{answered_changes, no_reply}
+use Rattle.lr_wakeups.proofs.Reached.{number_registered, number_left, few_left, awake_free, reached_moved, reached_outside, reached_free, reached_kept, reached_answered, reached_changes}
 use Rattle.lr_wakeups.proofs.Standing.{cover_begun, cover_awake, cover_kept, cover_answered, cover_ended, cover_left, cover_registered}
 
 -- the facts of the channels among all
-pub latch_facts : (n : ℕ) (peak : ChannelOf → ℕ) (client : Client) (connection : Connection)
-    → Facts n peak client connection → LatchFacts n client.session.latches connection
-latch_facts n peak client connection facts =
+pub latch_facts : (n : ℕ) (present : Present) (client : Client) (connection : Connection)
+    → Facts n present client connection → LatchFacts n client.session.latches connection
+latch_facts n present client connection facts =
     record { accounted = facts.accounted; matched = facts.matched; bounded = facts.bounded }
 
-module _ (n : ℕ) (peak : ChannelOf → ℕ) (client : Client) (connection : Connection)
-    (facts : Facts n peak client connection) (thread : ℕ) (within : thread ≤ thread_limit) where
+module _ (n : ℕ) (present : Present) (client : Client) (connection : Connection)
+    (facts : Facts n present client connection) (thread : ℕ) (within : thread ≤ thread_limit) where
   -- a request begins
   pub begun : (waiter : Waiter) (turn : ℕ) → waiter_in client thread ≡ None
       → FitsStage waiter.stage waiter.registered → waiter.registered ≡ false
-      → Facts n peak
+      → Facts n present
       (record client {
         session = with_waiter thread (Some waiter) (record client.session { turn = turn });
       })
@@ -60,8 +62,14 @@ module _ (n : ℕ) (peak : ChannelOf → ℕ) (client : Client) (connection : Co
     answered = answered_changes thread (Some waiter) (client.replies thread) client after changes
         (λ not_asked. (facts.answered thread).without (ap asked_with idle)) facts.answered;
     covered = λ q.
-        cover_begun thread (client.replies thread) client after within (peak q) q connection waiter
-        changes idle outside refl (facts.covered q);
+        cover_begun thread (client.replies thread) client after within (present.peak q) q connection
+        waiter changes idle outside refl (facts.covered q);
+    few = facts.few;
+    reached = reached_changes present thread (Some waiter) (client.replies thread) client after
+        changes connection
+        (reached_outside present client.session.client thread client.session.latches.entries
+        connection.outbox (client.replies thread) waiter outside)
+        (λ t apart under q there. refl) facts.reached;
   }
     where
       after : Client
@@ -96,9 +104,13 @@ module _ (n : ℕ) (peak : ChannelOf → ℕ) (client : Client) (connection : Co
         ≡ (client.session.latches.entries q).registered)
         → ((q : ChannelOf) → is_subscribed (after.session.latches.entries q)
         ≡ is_subscribed (client.session.latches.entries q))
-        → ((q : ChannelOf) → IsCovered (peak q) q after connection)
-        → Facts n peak after connection
-    restaged stage reply after restages latched registered heard covered = record {
+        → ((q : ChannelOf) → IsCovered (present.peak q) q after connection)
+        → ((q : ChannelOf) → (after.session.latches.entries q).broadcast
+        ≡ (client.session.latches.entries q).broadcast)
+        → ReachedWith present client.session.client client.session.latches.entries
+        connection.outbox thread reply (Some (at_stage stage waiter))
+        → Facts n present after connection
+    restaged stage reply after restages latched registered heard covered numbers here = record {
       accounted = latched.accounted;
       matched = latched.matched;
       bounded = latched.bounded;
@@ -110,7 +122,34 @@ module _ (n : ℕ) (peak : ChannelOf → ℕ) (client : Client) (connection : Co
       answered = answered_changes thread (Some (at_stage stage waiter)) reply client after
           restages.changes restages.reply_fits facts.answered;
       covered = covered;
+      few = λ q. subst (λ k. k ≤ n) (sym (numbers q)) (facts.few q);
+      reached = reached_changes present thread (Some (at_stage stage waiter)) reply client after
+          restages.changes connection
+          (reached_moved present client.session.client thread client.session.latches.entries
+          after.session.latches.entries connection.outbox connection.outbox reply
+          (at_stage stage waiter)
+          (λ inside. numbers (channel_in client.session thread waiter)) (λ quiet. quiet) here)
+          (λ t apart under q there. numbers q) facts.reached;
     }
+
+    -- what is so of it before
+    was_reached : ReachedWith present client.session.client client.session.latches.entries
+        connection.outbox thread (client.replies thread) (Some waiter)
+    was_reached =
+        subst
+        (ReachedWith present client.session.client client.session.latches.entries
+        connection.outbox thread (client.replies thread))
+        was (facts.reached thread within)
+
+    -- and once it is awake
+    woken : (stage : Stage) → seen_at stage ≤ (entry_for client.session thread waiter).broadcast
+        → is_awake_at stage None waiter.want.function ≡ true
+        → ReachedWith present client.session.client client.session.latches.entries
+        connection.outbox thread None (Some (at_stage stage waiter))
+    woken stage noted awake =
+        reached_free present client.session.client thread client.session.latches.entries
+        connection.outbox None (at_stage stage waiter) (λ inside. noted)
+        (awake_free stage waiter.want.function awake)
 
     -- it sends a call, or a message, a permit or a timer has woken it: it is awake
     pub awoken : (stage : Stage) (turn : ℕ)
@@ -118,12 +157,13 @@ module _ (n : ℕ) (peak : ChannelOf → ℕ) (client : Client) (connection : Co
         → is_joining_at waiter.stage ≡ false → is_joining_at stage ≡ false
         → asked_with (Some waiter) ≡ false
         → is_awake_at stage None waiter.want.function ≡ true
-        → Facts n peak
+        → seen_at stage ≤ (entry_for client.session thread waiter).broadcast
+        → Facts n present
         (record client {
           session = with_stage thread waiter stage (record client.session { turn = turn });
         })
         connection
-    awoken stage turn fits old new not_asked awake =
+    awoken stage turn fits old new not_asked awake noted =
         restaged stage None after
         (record {
           changes = changes;
@@ -132,10 +172,11 @@ module _ (n : ℕ) (peak : ChannelOf → ℕ) (client : Client) (connection : Co
           then_ = new;
           reply_fits = λ asked. refl;
         })
-        (latch_facts n peak client connection facts) (λ q. refl) (λ q. refl)
+        (latch_facts n present client connection facts) (λ q. refl) (λ q. refl)
         (λ q.
-        cover_awake thread None client after within (peak q) q connection waiter was stage changes
-        awake (λ outside. refl) (facts.covered q))
+        cover_awake thread None client after within (present.peak q) q connection waiter was stage
+        changes awake (λ outside. refl) (facts.covered q))
+        (λ q. refl) (woken stage noted awake)
       where
         after : Client
         after = record client {
@@ -165,7 +206,8 @@ module _ (n : ℕ) (peak : ChannelOf → ℕ) (client : Client) (connection : Co
         → is_joining_at waiter.stage ≡ false → is_joining_at stage ≡ false
         → asked_with (Some waiter) ≡ false
         → is_awake_at stage None waiter.want.function ≡ true
-        → Facts n peak
+        → seen_at stage ≤ (entry_for client.session thread waiter).broadcast
+        → Facts n present
         (record client {
           session = with_stage thread waiter stage
               (record
@@ -176,7 +218,7 @@ module _ (n : ℕ) (peak : ChannelOf → ℕ) (client : Client) (connection : Co
               });
         })
         connection
-    permitted stage turn inside fits old new not_asked awake =
+    permitted stage turn inside fits old new not_asked awake noted =
         restaged stage None after
         (record {
           changes = changes;
@@ -186,7 +228,7 @@ module _ (n : ℕ) (peak : ChannelOf → ℕ) (client : Client) (connection : Co
           reply_fits = λ asked. refl;
         })
         (latch_facts_permit n client.session.latches connection
-        (latch_facts n peak client connection facts) (channel_in client.session thread waiter))
+        (latch_facts n present client connection facts) (channel_in client.session thread waiter))
         (by_channel (λ q x. x.registered ≡ (client.session.latches.entries q).registered)
         (channel_in client.session thread waiter) (take_permit (entry_for client.session thread waiter))
         client.session.latches.entries after.session.latches.entries entry refl
@@ -196,8 +238,13 @@ module _ (n : ℕ) (peak : ChannelOf → ℕ) (client : Client) (connection : Co
         client.session.latches.entries after.session.latches.entries entry refl
         (λ q other. refl))
         (λ q.
-        cover_awake thread None client after within (peak q) q connection waiter was stage changes
-        awake (λ outside. elsewhere q outside) (facts.covered q))
+        cover_awake thread None client after within (present.peak q) q connection waiter was stage
+        changes awake (λ outside. elsewhere q outside) (facts.covered q))
+        (by_channel (λ q x. x.broadcast ≡ (client.session.latches.entries q).broadcast)
+        (channel_in client.session thread waiter) (take_permit (entry_for client.session thread waiter))
+        client.session.latches.entries after.session.latches.entries entry refl
+        (λ q other. refl))
+        (woken stage noted awake)
       where
         after : Client
         after = record client {
@@ -264,7 +311,7 @@ module _ (n : ℕ) (peak : ChannelOf → ℕ) (client : Client) (connection : Co
 
     -- it looks, and sleeps
     pub slept : (refusal : Refusal) → waiter.stage ≡ Refused refusal
-        → Facts n peak
+        → Facts n present
         (record client { session = with_stage thread waiter (Asleep refusal) client.session })
         connection
     slept refusal refused =
@@ -277,13 +324,19 @@ module _ (n : ℕ) (peak : ChannelOf → ℕ) (client : Client) (connection : Co
           then_ = refl;
           reply_fits = λ asked. refl;
         })
-        (latch_facts n peak client connection facts) (λ q. refl) (λ q. refl)
+        (latch_facts n present client connection facts) (λ q. refl) (λ q. refl)
         (λ q.
-        cover_kept thread None client after within (peak q) q connection waiter was (Asleep refusal)
-        changes
+        cover_kept thread None client after within (present.peak q) q connection waiter was
+        (Asleep refusal) changes
         (ap (λ s. is_awake_at s (client.replies thread) waiter.want.function) refused)
         (ap (λ s. is_blocked_at s (client.replies thread) waiter.want.function) refused)
         (sym (ap (λ s. due_at s (client.replies thread)) refused)) refl (facts.covered q))
+        (λ q. refl)
+        (reached_kept present client.session.client thread client.session.latches.entries
+        connection.outbox (client.replies thread) None waiter (Asleep refusal)
+        (sym (ap seen_at refused)) (sym (ap (λ s. due_at s (client.replies thread)) refused))
+        (ap (λ s. is_blocked_at s (client.replies thread) waiter.want.function) refused)
+        was_reached)
       where
         after : Client
         after = record client { session = with_stage thread waiter (Asleep refusal) client.session }
@@ -307,9 +360,10 @@ module _ (n : ℕ) (peak : ChannelOf → ℕ) (client : Client) (connection : Co
 
     -- A reply comes for it.
     pub answered : (asking : Asking) (reply : Reply) → waiter.stage ≡ Asked asking
-        → IsInTime peak client thread waiter asking reply
-        → Facts n peak (with_reply thread (Some reply) client) connection
-    answered asking reply asked in_time =
+        → IsInTime present.peak client thread waiter asking reply
+        → IsLeftWaiting present (owner_in client.session thread) waiter.want asking.at reply
+        → Facts n present (with_reply thread (Some reply) client) connection
+    answered asking reply asked in_time waits =
         restaged waiter.stage (Some reply) after
         (record {
           changes = changes;
@@ -318,10 +372,14 @@ module _ (n : ℕ) (peak : ChannelOf → ℕ) (client : Client) (connection : Co
           then_ = ap is_joining_at asked;
           reply_fits = λ not_asked. absurd (false≢true (sym not_asked ∙ ap is_asked_at asked));
         })
-        (latch_facts n peak client connection facts) (λ q. refl) (λ q. refl)
+        (latch_facts n present client connection facts) (λ q. refl) (λ q. refl)
         (λ q.
-        cover_answered thread (Some reply) client after within (peak q) q connection waiter was
-        asking reply asked refl changes (timer q) refl (facts.covered q))
+        cover_answered thread (Some reply) client after within (present.peak q) q connection waiter
+        was asking reply asked refl changes (timer q) refl (facts.covered q))
+        (λ q. refl)
+        (reached_answered present client.session.client thread client.session.latches.entries
+        connection.outbox (client.replies thread) waiter asking reply asked waits
+        was_reached)
       where
         after : Client
         after = with_reply thread (Some reply) client
@@ -338,7 +396,7 @@ module _ (n : ℕ) (peak : ChannelOf → ℕ) (client : Client) (connection : Co
 
         timer : (q : ChannelOf) → blocks reply waiter.want.function ≡ true
             → channel_wakes q.kind ≡ One → waits_at q client thread waiter ≡ true
-            → (m : ℕ) × (due_by_reply asking.at (Some reply) ≡ Some m) × (m ≤ peak q)
+            → (m : ℕ) × (due_by_reply asking.at (Some reply) ≡ Some m) × (m ≤ present.peak q)
         timer q blocked one there =
             let parts = and_parts waiter.registered
             (same_channel q (channel_in client.session thread waiter)) there in
@@ -348,14 +406,14 @@ module _ (n : ℕ) (peak : ChannelOf → ℕ) (client : Client) (connection : Co
             (ap (λ (c : ChannelOf). channel_wakes c.kind) (sym own_is) ∙ one) blocked in (
               asking.at + busy.0,
               ap (λ r. due_by_reply asking.at (Some r)) busy.1,
-              subst (λ c. asking.at + busy.0 ≤ peak c) (sym own_is) busy.2,
+              subst (λ c. asking.at + busy.0 ≤ present.peak c) (sym own_is) busy.2,
             )
 
     -- The thread takes a reply that refuses its call, and was registered.
     pub refused_again : (asking : Asking) (reply : Reply) → waiter.stage ≡ Asked asking
         → client.replies thread ≡ Some reply → blocks reply waiter.want.function ≡ true
         → waiter.registered ≡ true
-        → Facts n peak
+        → Facts n present
         (record (with_reply thread None client) {
           session = with_stage thread waiter
               (Refused (record { due = due_after asking.at reply; seen = asking.seen }))
@@ -371,12 +429,18 @@ module _ (n : ℕ) (peak : ChannelOf → ℕ) (client : Client) (connection : Co
           then_ = refl;
           reply_fits = λ not_asked. refl;
         })
-        (latch_facts n peak client connection facts) (λ q. refl) (λ q. refl)
+        (latch_facts n present client connection facts) (λ q. refl) (λ q. refl)
         (λ q.
-        cover_kept thread None client after within (peak q) q connection waiter was stage changes
+        cover_kept thread None client after within (present.peak q) q connection waiter was stage changes
         ((λ i. is_awake_at (asked i) (replied i) waiter.want.function) ∙ ap not blocked)
         ((λ i. is_blocked_at (asked i) (replied i) waiter.want.function) ∙ blocked)
         (sym (λ i. due_at (asked i) (replied i))) refl (facts.covered q))
+        (λ q. refl)
+        (reached_kept present client.session.client thread client.session.latches.entries
+        connection.outbox (client.replies thread) None waiter stage (sym (ap seen_at asked))
+        (sym (λ i. due_at (asked i) (replied i)))
+        ((λ i. is_blocked_at (asked i) (replied i) waiter.want.function) ∙ blocked)
+        was_reached)
       where
         stage : Stage
         stage = Refused (record { due = due_after asking.at reply; seen = asking.seen })
@@ -409,7 +473,7 @@ module _ (n : ℕ) (peak : ChannelOf → ℕ) (client : Client) (connection : Co
     pub ended : (reply : Option Reply) (after : Client)
         → ChangesThread thread None reply client after → reply ≡ None
         → waiter.registered ≡ false → after.session.latches ≡ client.session.latches
-        → Facts n peak after connection
+        → Facts n present after connection
     ended reply after changes none outside same = record {
       accounted = latched.accounted;
       matched = latched.matched;
@@ -422,14 +486,19 @@ module _ (n : ℕ) (peak : ChannelOf → ℕ) (client : Client) (connection : Co
       answered = answered_changes thread None reply client after changes (λ not_asked. none)
           facts.answered;
       covered = λ q.
-          cover_ended thread reply client after within (peak q) q connection waiter was changes
+          cover_ended thread reply client after within (present.peak q) q connection waiter was changes
           outside (ap (λ (l : Latches). (l.entries q).permits) same) (facts.covered q);
+      few = λ q.
+          subst (λ (l : Latches). (l.entries q).broadcast ≤ n) (sym same) (facts.few q);
+      reached = reached_changes present thread None reply client after changes connection tt
+          (λ t apart under q there. ap (λ (l : Latches). (l.entries q).broadcast) same)
+          facts.reached;
     }
       where
         latched : LatchFacts n after.session.latches connection
         latched =
             subst (λ l. LatchFacts n l connection) (sym same)
-            (latch_facts n peak client connection facts)
+            (latch_facts n present client connection facts)
 
     -- One ends that was: it leaves its channel.
     pub left : (reply : Option Reply) (after : Client)
@@ -437,7 +506,7 @@ module _ (n : ℕ) (peak : ChannelOf → ℕ) (client : Client) (connection : Co
         → waiter.registered ≡ true
         → after.session.latches
         ≡ leave_at (channel_in client.session thread waiter) client.session.latches
-        → Facts n peak after connection
+        → Facts n present after connection
     left reply after changes none inside same = record {
       accounted = latched.accounted;
       matched = latched.matched;
@@ -449,15 +518,26 @@ module _ (n : ℕ) (peak : ChannelOf → ℕ) (client : Client) (connection : Co
       answered = answered_changes thread None reply client after changes (λ not_asked. none)
           facts.answered;
       covered = λ q.
-          cover_left thread reply client after within (peak q) q connection waiter was changes
+          cover_left thread reply client after within (present.peak q) q connection waiter was changes
           inside (facts.counted q) entry (facts.covered q);
+      few =
+          by_channel (λ q x. x.broadcast ≤ n) (channel_in client.session thread waiter)
+          (leave_in (channel_wakes (channel_in client.session thread waiter).kind)
+          (entry_for client.session thread waiter))
+          client.session.latches.entries after.session.latches.entries entry
+          (few_left n (channel_wakes (channel_in client.session thread waiter).kind)
+          (entry_for client.session thread waiter)
+          (facts.few (channel_in client.session thread waiter)))
+          (λ q other. facts.few q);
+      reached = reached_changes present thread None reply client after changes connection tt
+          (λ t apart under. numbers t apart under) facts.reached;
     }
       where
         latched : LatchFacts n after.session.latches connection
         latched =
             subst (λ l. LatchFacts n l connection) (sym same)
             (latch_facts_left n client.session.latches connection
-            (latch_facts n peak client connection facts) (channel_in client.session thread waiter))
+            (latch_facts n present client connection facts) (channel_in client.session thread waiter))
 
         entry : ChangesEntry (channel_in client.session thread waiter)
             (leave_in (channel_wakes (channel_in client.session thread waiter).kind)
@@ -472,6 +552,35 @@ module _ (n : ℕ) (peak : ChannelOf → ℕ) (client : Client) (connection : Co
             (sym same)
             (entry_left (channel_in client.session thread waiter) client.session.latches)
 
+        -- it is registered at its own channel
+        is_there : is_registered (channel_in client.session thread waiter) client thread ≡ true
+        is_there =
+            ap (registered_with (channel_in client.session thread waiter) client thread) was
+            ∙ and_from waiter.registered
+            (same_channel (channel_in client.session thread waiter)
+            (channel_in client.session thread waiter))
+            inside (same_self (channel_in client.session thread waiter))
+
+        -- where another waits too, the entry stays
+        numbers : (t : ℕ) → (t ≡ thread → ⊥) → t ≤ thread_limit → (q : ChannelOf)
+            → is_registered q client t ≡ true
+            → (after.session.latches.entries q).broadcast
+            ≡ (client.session.latches.entries q).broadcast
+        numbers t apart under =
+            by_channel
+            (λ q x. is_registered q client t ≡ true
+            → x.broadcast ≡ (client.session.latches.entries q).broadcast)
+            (channel_in client.session thread waiter)
+            (leave_in (channel_wakes (channel_in client.session thread waiter).kind)
+            (entry_for client.session thread waiter))
+            client.session.latches.entries after.session.latches.entries entry
+            (λ there.
+            number_left (channel_wakes (channel_in client.session thread waiter).kind)
+            (entry_for client.session thread waiter)
+            (counts_two (channel_in client.session thread waiter) client thread t within under apart
+            (facts.counted (channel_in client.session thread waiter)) is_there there))
+            (λ q other there. refl)
+
     -- One registers: it joins, or may ask at once where its client hears the channel already.
     pub registers : (joined : Waiter) (after : Client) → suc n < 2 ^ 64
         → ChangesThread thread (Some joined) None client after
@@ -481,10 +590,11 @@ module _ (n : ℕ) (peak : ChannelOf → ℕ) (client : Client) (connection : Co
         ≡ not (is_subscribed
         (register_in (client.session.latches.entries (channel_in client.session thread waiter))))
         → is_blocked_at joined.stage None joined.want.function ≡ false
+        → seen_at joined.stage ≡ 0
         → after.session.latches
         ≡ register_at (channel_in client.session thread waiter) client.session.latches
-        → Facts (suc n) peak after connection
-    registers joined after few changes outside inside want fits joining free same = record {
+        → Facts (suc n) present after connection
+    registers joined after few changes outside inside want fits joining free unseen same = record {
       accounted = latched.accounted;
       matched = latched.matched;
       bounded = latched.bounded;
@@ -496,15 +606,25 @@ module _ (n : ℕ) (peak : ChannelOf → ℕ) (client : Client) (connection : Co
       answered = answered_changes thread (Some joined) None client after changes
           (λ not_asked. refl) facts.answered;
       covered = λ q.
-          cover_registered thread None client after within (peak q) q connection waiter was joined
+          cover_registered thread None client after within (present.peak q) q connection waiter was joined
           changes outside free (permits q) (facts.covered q);
+      few = λ q.
+          subst (λ k. k ≤ suc n) (sym (numbers q)) (omega (arith, facts.few q));
+      reached = reached_changes present thread (Some joined) None client after changes connection
+          (reached_free present client.session.client thread after.session.latches.entries
+          connection.outbox None joined
+          (λ registered.
+          subst (λ k. k ≤ (after.session.latches.entries (channel_in client.session thread joined)).broadcast)
+          (sym unseen) (omega arith))
+          free)
+          (λ t apart under q there. numbers q) facts.reached;
     }
       where
         latched : LatchFacts (suc n) after.session.latches connection
         latched =
             subst (λ l. LatchFacts (suc n) l connection) (sym same)
             (latch_facts_registered n client.session.latches connection
-            (latch_facts n peak client connection facts) (channel_in client.session thread waiter)
+            (latch_facts n present client connection facts) (channel_in client.session thread waiter)
             few)
 
         entry : ChangesEntry (channel_in client.session thread waiter)
@@ -531,5 +651,19 @@ module _ (n : ℕ) (peak : ChannelOf → ℕ) (client : Client) (connection : Co
             (client.session.latches.entries (channel_in client.session thread waiter)))
             client.session.latches.entries after.session.latches.entries entry
             (permits_registered
+            (client.session.latches.entries (channel_in client.session thread waiter)))
+            (λ q other. refl)
+
+        numbers : (q : ChannelOf)
+            → (after.session.latches.entries q).broadcast
+            ≡ (client.session.latches.entries q).broadcast
+        numbers =
+            by_channel
+            (λ q x. x.broadcast ≡ (client.session.latches.entries q).broadcast)
+            (channel_in client.session thread waiter)
+            (register_in
+            (client.session.latches.entries (channel_in client.session thread waiter)))
+            client.session.latches.entries after.session.latches.entries entry
+            (number_registered
             (client.session.latches.entries (channel_in client.session thread waiter)))
             (λ q other. refl)

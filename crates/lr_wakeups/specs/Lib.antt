@@ -6,6 +6,7 @@ pub mod Registered
 pub mod Joining
 pub mod Answered
 pub mod Standing
+pub mod Reached
 pub mod Facts
 pub mod Keeps
 pub mod Peaks

@@ -1,7 +1,7 @@
-ghost use Rattle.lr_wakeups.specs.Keeps.{OfEachThread, ReplyKeepsFacts, PushKeepsFacts, OrderKeepsFacts, PostKeepsFacts, RaisedPeaksKeepFacts};
+ghost use Rattle.lr_wakeups.specs.Keeps.{OfEachThread, ReplyKeepsFacts, PushKeepsFacts, OrderKeepsFacts, PostKeepsFacts, GoingOnKeepsFacts};
 
 /// The reply to a call keeps all facts, where one that refuses it on a channel that wakes one gives
-/// a timer that isn't later than the peak.
+/// a timer that isn't later than the peak, and on a channel that wakes all leaves it waiting.
 pub fn a_reply_keeps_the_facts()
     ensures { OfEachThread ReplyKeepsFacts }
 {}
@@ -17,12 +17,13 @@ pub fn an_executed_order_keeps_the_facts()
 {}
 
 /// And a message that is sent, where it doesn't drop the connection. The peak of its channel may be
-/// lower then: a client whose thread waits there has the message on its way.
+/// lower then, and who waits there may wait no longer: a client whose thread does has the message on
+/// its way.
 pub fn a_message_keeps_the_facts()
     ensures { PostKeepsFacts }
 {}
 
-/// And peaks that rise.
-pub fn raised_peaks_keep_the_facts()
-    ensures { RaisedPeaksKeepFacts }
+/// And time that passes, and what the server does without a message.
+pub fn going_on_keeps_the_facts()
+    ensures { GoingOnKeepsFacts }
 {}

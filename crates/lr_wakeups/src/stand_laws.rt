@@ -3,12 +3,21 @@ ghost use Rattle.lr_names.specs.Channel.{ChannelOf};
 ghost use Rattle.lr_model.specs.Board.{Connection};
 ghost use Rattle.lr_waiting.specs.Client.{Client};
 ghost use Rattle.lr_wakeups.specs.Facts.{Facts};
+ghost use Rattle.lr_wakeups.specs.Reached.{Present, NoLostBroadcast};
 ghost use Rattle.lr_wakeups.specs.Standing.{NoLostWakeup};
 
 /// Where the facts are so, something stands for each thread that sleeps on a channel where a message
 /// wakes one. What is told to stand for it is never nothing, and a timer that is told isn't later
 /// than the peak.
 pub fn no_wakeup_is_lost()
-    ensures { (n : ℕ) (peak : ChannelOf → ℕ) (client : Client) (connection : Connection)
-        → Facts n peak client connection → NoLostWakeup peak client connection }
+    ensures { (n : ℕ) (present : Present) (client : Client) (connection : Connection)
+        → Facts n present client connection → NoLostWakeup present.peak client connection }
+{}
+
+/// And on a channel where a message wakes all: what is told to stand is never nothing, and a timer
+/// isn't later than the peak of a read-write lock, or than now where permits are waited for. A
+/// semaphore and a latch have none.
+pub fn no_broadcast_is_lost()
+    ensures { (n : ℕ) (present : Present) (client : Client) (connection : Connection)
+        → Facts n present client connection → NoLostBroadcast present client connection }
 {}
