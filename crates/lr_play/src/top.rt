@@ -26,11 +26,14 @@ use std::alloc::Global;
 /// once and in order, no two claims that conflict are held at once, and what is promised of the
 /// replies of each kind of object is so. Want of memory may end a run at any line.
 ///
-/// No wakeup is lost either: after each of the events one of these stands for each thread asleep on a
-/// lock whose channel wakes one. A message of the channel is in flight to its client, a permit of the
-/// client's latch is unused, a thread that is registered there is awake, or the timer of one comes no
-/// later than the peak of the lock, the latest deadline that a holder got since the last message. No
-/// fairness and no waiting time is claimed, nor that the event comes that wakes the thread.
+/// No wakeup is lost either: after each of the events one of these stands for each thread that sleeps.
+/// On a lock whose channel wakes one, a message of the channel is in flight to its client, a permit of
+/// the client's latch is unused, a thread that is registered there is awake, or the timer of one comes
+/// no later than the peak of the lock, the latest deadline that a holder got since the last message.
+/// Where the channel wakes all, the thread's own call would be refused now, a message is in flight or
+/// has come since it asked, or its own timer comes no later than the peak of a read-write lock, or than
+/// now where it waits for a permit. No fairness and no waiting time is claimed, nor that the event
+/// comes that wakes the thread.
 pub fn play_top<S: Source, K: Sink>(
     alloc: Global,
     words: &[Text],
@@ -66,8 +69,8 @@ pub fn play_top<S: Source, K: Sink>(
     // each kind of object is so.
     ensures every_event { (events : List Event) → AllByRecursion IsWithin events → GoesWell events }
 
-    // And no wakeup is lost: what stands for a thread that sleeps, on a channel where a message wakes
-    // one, is never nothing, and no timer that is later than the peak of its lock.
+    // And no wakeup is lost: what stands for a thread that sleeps is never nothing, and no timer that
+    // is later than the peak of its lock, or than now where it waits for a permit.
     ensures awake { ThroughoutEverySchedule (λ n world. NoWakeupIsLost world) }
 {
     if !is_play(words) {
