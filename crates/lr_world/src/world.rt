@@ -112,7 +112,7 @@ impl World {
     pub fn stands(&self) -> Result<Standings, AllocError>
         ensures { IfOk result (λ s. s ≡ standings_of (world_of self.now)) }
     {
-        standings(self.alloc, &self.server, &self.clients)
+        standings(self.alloc, &self.server, &self.clients, self.moment)
     }
 
     /// What the server has done, in order.
@@ -209,7 +209,7 @@ fn serve(
         }
         Event::Force(name) => force(server, clients, *moment, name),
         Event::Cut { client } => Ok(cut(server, clients, *moment, client)),
-        Event::Show => Ok(Shown::Standings(standings(alloc, server, clients)?)),
+        Event::Show => Ok(Shown::Standings(standings(alloc, server, clients, *moment)?)),
         _ => unreachable!(),
     }
 }
