@@ -7,8 +7,10 @@
 mod call;
 mod functions;
 mod laws;
+mod look;
 #[cfg(test)]
 mod tests;
 
 pub use call::run;
 pub use laws::{countdowns_stand_later, no_keys_stand_for_no_countdowns};
+pub use look::would_wait;

@@ -1,4 +1,4 @@
-use crate::run;
+use crate::{run, would_wait};
 use lr_keys::KeySpace;
 use lr_limits::MOST_AMOUNT;
 use lr_names::{Name, Part, key};
@@ -67,6 +67,15 @@ fn is_set_again(alloc: Global, keys: &mut KeySpace, name: &Name) -> bool {
     all_answer(alloc, keys, name, &calls) && keys.exists(&key(Part::Countdown, name))
 }
 
+// Whether one who asks for the count is seen to wait until it is at 0.
+fn looks(alloc: Global, keys: &mut KeySpace, name: &Name) -> bool {
+    let unset = would_wait(keys, name);
+    let is_set = all_answer(alloc, keys, name, &[(set(1), Reply::Set, false)]);
+    let above = would_wait(keys, name);
+    let down = [(CountdownCall::Down, counted(0), true)];
+    !unset && is_set && above && all_answer(alloc, keys, name, &down) && !would_wait(keys, name)
+}
+
 #[test]
 fn the_life_of_a_latch(rt: HostRuntime) -> Result<(), Fail> {
     let mut keys = KeySpace::new(rt.alloc())?;
@@ -74,5 +83,13 @@ fn the_life_of_a_latch(rt: HostRuntime) -> Result<(), Fail> {
     let lives = is_counted(rt.alloc(), &mut keys, &name)
         && is_set_again(rt.alloc(), &mut keys, &name);
     assert!(rt; lives && keys.moment() == 7);
+    Ok(())
+}
+
+#[test]
+fn a_look(rt: HostRuntime) -> Result<(), Fail> {
+    let mut keys = KeySpace::new(rt.alloc())?;
+    let name = Name::parse(b"a")?;
+    assert!(rt; looks(rt.alloc(), &mut keys, &name));
     Ok(())
 }

@@ -104,7 +104,7 @@ module _ (id : List ℕ) (in_id : IsId id) where
 
 -- ---- leases that are filtered
 
-abbrev IsAbsent : List ℕ → List PermitLease → Type 0
+abbrev pub IsAbsent : List ℕ → List PermitLease → Type 0
 IsAbsent text leases = AllByRecursion (λ y. bytes_eq text y ≡ false) (keys_of (members_of leases))
 
 absent-filter : (text : List ℕ) (p : PermitLease → Bool) (leases : List PermitLease)

@@ -5,3 +5,4 @@ pub mod StepLemmas
 pub mod RunLemmas
 pub mod StandsLaws
 pub mod CallLemmas
+pub mod WaitLemmas

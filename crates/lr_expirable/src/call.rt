@@ -32,9 +32,9 @@ fn has_lease(call: &PermitCall) -> bool
     }
 }
 
-// Whether the lease with this text lasts beyond the moment, or beyond that of the keys where that is
-// later.
-fn is_taken_at(keys: &KeySpace, key: &Brief, member: &Brief, moment: u64) -> bool
+/// Whether the lease with this text lasts beyond the moment, or beyond that of the keys where that is
+/// later.
+pub(crate) fn is_taken_at(keys: &KeySpace, key: &Brief, member: &Brief, moment: u64) -> bool
     ensures { let m = max keys.now.moment moment in
         result ≡ is_taken m (score_at member.now (entry_at keys.now key.now)) }
 {

@@ -10,9 +10,11 @@ mod expired;
 mod functions;
 mod laws;
 mod leases;
+mod look;
 mod permit_keys;
 #[cfg(test)]
 mod tests;
 
 pub use call::run;
 pub use laws::{no_keys_stand_for_no_permits, permits_stand_later};
+pub use look::would_wait;

@@ -1,4 +1,4 @@
-use crate::run;
+use crate::{run, would_wait};
 use lr_keys::KeySpace;
 use lr_limits::{LAST_MOMENT, MOST_AMOUNT, MOST_MEMBERS, NEVER};
 use lr_names::{Name, Part, id_brief, key};
@@ -101,6 +101,22 @@ fn leases_end_alone(alloc: Global, keys: &mut KeySpace, name: &Name, ids: &[Uuid
     all_answer(alloc, keys, name, &calls)
 }
 
+// Whether a look counts no lease that has run out, though it stands there still.
+fn looks(alloc: Global, keys: &mut KeySpace, name: &Name, ids: &[Uuid; 3]) -> bool {
+    let calls = [
+        (0, set(2), Reply::Set, true),
+        (0, take(ids[0], 1000), Reply::Granted, false),
+        (0, take(ids[1], 2000), Reply::Granted, false),
+    ];
+    let unset = would_wait(keys, 0, name, &ids[2]);
+    all_answer(alloc, keys, name, &calls)
+        && unset
+        && would_wait(keys, 999, name, &ids[2])
+        && !would_wait(keys, 999, name, &ids[0])
+        && !would_wait(keys, 1000, name, &ids[2])
+        && keys.zcard(&key(Part::PermitLeases, name)) == Ok(2)
+}
+
 #[test]
 fn the_life_of_permits(rt: HostRuntime) -> Result<(), Fail> {
     let mut keys = KeySpace::new(rt.alloc())?;
@@ -114,6 +130,19 @@ fn the_life_of_permits(rt: HostRuntime) -> Result<(), Fail> {
     let lives = comes_back(rt.alloc(), &mut keys, &one, ids[0], ids[1])
         && leases_end_alone(rt.alloc(), &mut keys, &two, &ids);
     assert!(rt; lives && !keys.exists(&key(Part::PermitLeases, &one)));
+    Ok(())
+}
+
+#[test]
+fn a_look(rt: HostRuntime) -> Result<(), Fail> {
+    let mut keys = KeySpace::new(rt.alloc())?;
+    let name = Name::parse(b"a")?;
+    let ids = [
+        Uuid::from_u128(1),
+        Uuid::from_u128(2),
+        Uuid::from_u128(3),
+    ];
+    assert!(rt; looks(rt.alloc(), &mut keys, &name, &ids));
     Ok(())
 }
 

@@ -236,7 +236,7 @@ live-without moment owner access hold (first ∷ rest) found dead =
 
 -- ---- who writes
 
-find-nowhere : (p : ReadWriteHold → Bool) (xs : ReadWriteLock)
+pub find-nowhere : (p : ReadWriteHold → Bool) (xs : ReadWriteLock)
     → AllByRecursion (λ x. p x ≡ false) xs → find p xs ≡ None
 find-nowhere p [] all = refl
 find-nowhere p (x ∷ xs) all =

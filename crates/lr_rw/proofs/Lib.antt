@@ -9,3 +9,4 @@ pub mod RunLemmas
 pub mod PostLemmas
 pub mod StandsLaws
 pub mod CallLemmas
+pub mod WaitLemmas

@@ -40,9 +40,9 @@ fn lease_of(call: &ReadWriteCall) -> u64
     }
 }
 
-// Whether the hold with this text lasts beyond the moment, or beyond that of the keys where that is
-// later.
-fn is_held_at(keys: &KeySpace, lock: &LockKeys, member: &Brief, moment: u64) -> bool
+/// Whether the hold with this text lasts beyond the moment, or beyond that of the keys where that is
+/// later.
+pub(crate) fn is_held_at(keys: &KeySpace, lock: &LockKeys, member: &Brief, moment: u64) -> bool
     ensures { let m = max keys.now.moment moment in
         result ≡ is_held m (score_at member.now (entry_at keys.now lock.now.deadlines)) }
 {

@@ -10,6 +10,7 @@ mod expired;
 mod holds;
 mod laws;
 mod lock_keys;
+mod look;
 mod member;
 mod steps;
 #[cfg(test)]
@@ -17,3 +18,4 @@ mod tests;
 
 pub use call::run;
 pub use laws::{no_keys_stand_for_no_read_write_locks, read_write_locks_stand_later};
+pub use look::would_wait;

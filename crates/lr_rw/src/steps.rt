@@ -25,11 +25,11 @@ fn remaining(keys: &KeySpace, deadline: u64) -> Remaining
     Remaining::new(left.clamp(1, NEVER))
 }
 
-// The deadline of the write hold of another owner, if there is one.
-//
-// One place tells. A write hold stands only beside holds of its own owner, so whoever writes has all
-// the holds, the first one too: if another writes, it is the owner of the first hold.
-fn writer_beside(keys: &KeySpace, lock: &LockKeys, owner: &Owner) -> Option<u64>
+/// The deadline of the write hold of another owner, if there is one.
+///
+/// One place tells. A write hold stands only beside holds of its own owner, so whoever writes has all
+/// the holds, the first one too: if another writes, it is the owner of the first hold.
+pub(crate) fn writer_beside(keys: &KeySpace, lock: &LockKeys, owner: &Owner) -> Option<u64>
     ensures { (holds : ReadWriteLock)
         → IsLockAt keys.now lock.now.counts lock.now.deadlines holds
         → result ≡ option_map (λ hold. hold.deadline) (writer_beside owner.now holds) }

@@ -1,5 +1,5 @@
 use crate::member::member;
-use crate::run;
+use crate::{run, would_wait};
 use lr_keys::KeySpace;
 use lr_limits::{LAST_MOMENT, MOST_HOLDS, MOST_MEMBERS, NEVER};
 use lr_names::{Name, Owner, Part, key};
@@ -149,6 +149,28 @@ fn is_counted(alloc: Global, keys: &mut KeySpace, name: &Name, one: &Owner, two:
         (4006, unlock_write(one, 7), Reply::NotHeld, false),
     ];
     all_answer(alloc, keys, name, &calls)
+}
+
+// Whether a look counts no hold that has expired, though it stands there still.
+fn looks(alloc: Global, keys: &mut KeySpace, name: &Name, one: &Owner, two: &Owner) -> bool {
+    let calls = [(0, write(one, 1000), Reply::Granted, false)];
+    all_answer(alloc, keys, name, &calls)
+        && would_wait(keys, 999, name, Access::Read, two)
+        && would_wait(keys, 999, name, Access::Write, two)
+        && !would_wait(keys, 999, name, Access::Read, one)
+        && !would_wait(keys, 999, name, Access::Write, one)
+        && !would_wait(keys, 1000, name, Access::Read, two)
+        && !would_wait(keys, 1000, name, Access::Write, two)
+        && keys.zcard(&key(Part::RwDeadlines, name)) == Ok(1)
+}
+
+#[test]
+fn a_look(rt: HostRuntime) -> Result<(), Fail> {
+    let mut keys = KeySpace::new(rt.alloc())?;
+    let name = Name::parse(b"a")?;
+    let (one, two) = (Owner::parse(ONE)?, Owner::parse(TWO)?);
+    assert!(rt; looks(rt.alloc(), &mut keys, &name, &one, &two));
+    Ok(())
 }
 
 #[test]

@@ -1,4 +1,4 @@
-use crate::run;
+use crate::{run, would_wait};
 use lr_keys::KeySpace;
 use lr_limits::MOST_AMOUNT;
 use lr_names::{Name, Part, key};
@@ -96,6 +96,15 @@ fn is_full(alloc: Global, keys: &mut KeySpace, name: &Name) -> bool {
     all_answer(alloc, keys, name, &calls)
 }
 
+// Whether a try is seen to wait for permits that aren't free, or whose number isn't set.
+fn looks(alloc: Global, keys: &mut KeySpace, name: &Name) -> bool {
+    let unset = would_wait(keys, name, &amount(1));
+    all_answer(alloc, keys, name, &[(set(2), Reply::Set, true)])
+        && unset
+        && !would_wait(keys, name, &amount(2))
+        && would_wait(keys, name, &amount(3))
+}
+
 #[test]
 fn the_life_of_a_semaphore(rt: HostRuntime) -> Result<(), Fail> {
     let mut keys = KeySpace::new(rt.alloc())?;
@@ -104,5 +113,13 @@ fn the_life_of_a_semaphore(rt: HostRuntime) -> Result<(), Fail> {
         && stays_set(rt.alloc(), &mut keys, &one)
         && is_full(rt.alloc(), &mut keys, &two);
     assert!(rt; lives && keys.moment() == 7);
+    Ok(())
+}
+
+#[test]
+fn a_look(rt: HostRuntime) -> Result<(), Fail> {
+    let mut keys = KeySpace::new(rt.alloc())?;
+    let name = Name::parse(b"a")?;
+    assert!(rt; looks(rt.alloc(), &mut keys, &name));
     Ok(())
 }

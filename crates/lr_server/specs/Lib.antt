@@ -2,3 +2,4 @@ pub mod Server
 pub mod Stands
 pub mod Done
 pub mod Serving
+pub mod Looks

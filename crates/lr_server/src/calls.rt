@@ -4,12 +4,12 @@ ghost use Rattle.std.specs.Prelude.{◌≤◌};
 ghost use Rattle.lr_limits.specs.Limits.{last_moment};
 ghost use Rattle.lr_server.specs.Done.{IsRun};
 
-mod countdowns;
+pub(crate) mod countdowns;
 mod fenced_locks;
 mod mutexes;
-mod permits;
-mod read_write_locks;
-mod semaphores;
+pub(crate) mod permits;
+pub(crate) mod read_write_locks;
+pub(crate) mod semaphores;
 
 use lr_keys::KeySpace;
 use lr_names::Post;

@@ -7,6 +7,7 @@ mod answered;
 mod calls;
 mod fault;
 mod keys_and_board;
+mod looks;
 mod state;
 
 pub use answered::{Answer, Answered};

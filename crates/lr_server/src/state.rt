@@ -1,7 +1,14 @@
 ghost use Rattle.std.specs.Prelude.{◌≡◌, ◌≢◌, ◌↔◌, ◌<◌, ◌≤◌, ◌+◌, ◌++◌, ◌∷◌, false, nat_le, [], Some, IsTrue, IsSome, length, IsOk, IfOk, OnOk, OnErr};
-ghost use Rattle.lr_limits.specs.Limits.{connection_limit, entry_limit, last_moment};
+ghost use Rattle.lr_limits.specs.Limits.{connection_limit, entry_limit, last_moment, watchdog_lease};
+ghost use Rattle.lr_names.specs.Channel.{channel_wakes};
+ghost use Rattle.lr_names.specs.declared.kind.Wakes.TheVariants.{All};
+ghost use Rattle.lr_objects.specs.Function.{arguments_of};
+ghost use Rattle.lr_objects.specs.Op.{kind_of};
+ghost use Rattle.lr_objects.specs.Reply.{blocks};
+ghost use Rattle.lr_objects.specs.Want.{HasAmount, op_of};
 ghost use Rattle.lr_model.specs.declared.entry.Act.{Act};
 ghost use Rattle.lr_model.specs.declared.entry.Act.TheVariants as acts;
+ghost use Rattle.lr_model.specs.Answer.{reply_of};
 ghost use Rattle.lr_model.specs.Board.{is_open, free_numbers};
 ghost use Rattle.lr_model.specs.History.{Opens, Closes, HandsOut, state_at_start, result_of, CanDrain, IsAllowed, IsLegal};
 ghost use Rattle.lr_history.specs.Limit.{is_refused};
@@ -12,11 +19,13 @@ use crate::act::act_of;
 use crate::answered::{Answer, Answered};
 use crate::fault::StepFault;
 use crate::keys_and_board::make;
+use crate::looks;
 use lr_commands::Request;
 use lr_history::{Act, Entry, History};
 use lr_keys::KeySpace;
 use lr_limits::{LAST_MOMENT, MOST_CONNECTIONS, MOST_ENTRIES};
-use lr_names::Channel;
+use lr_names::{Channel, Owner};
+use lr_objects::Want;
 use lr_pubsub::{Board, Pushes};
 use std::alloc::{AllocError, Global};
 use std::marker::Model;
@@ -246,6 +255,20 @@ impl ServerState {
         self.board.in_flight(conn, channel)
     }
 
+    /// Whether what an owner wants would have it wait, if it asked at this reading of the clock,
+    /// with the lease of the watchdog. It is told by a look at the keys, for the kinds whose
+    /// messages wake all who wait: it makes no entry and changes nothing.
+    pub fn would_wait(&self, reading: u64, want: &Want, owner: &Owner) -> bool
+        requires amount { HasAmount (arguments_of want.now.function) want.now }
+        requires wakes_all { let op = op_of want.now owner.now watchdog_lease false in
+            channel_wakes (kind_of op) ≡ All }
+        ensures { let op = op_of want.now owner.now watchdog_lease false in
+            result ≡ blocks (reply_of (state_of self.now).objects (moment_at self.now reading) op)
+            want.now.function }
+    {
+        looks::would_wait(&self.keys, self.moment_at(reading), want, owner)
+    }
+
     // Whether the history takes only closes.
     fn is_full(&self) -> bool
         ensures { result ≡ nat_le entry_limit (length self.now.entries) }
@@ -253,14 +276,21 @@ impl ServerState {
         self.history.len() >= MOST_ENTRIES
     }
 
+    // The moment of what is done at this reading of the clock.
+    fn moment_at(&self, reading: u64) -> u64
+        ensures value { result ≡ moment_at self.now reading }
+        ensures early { result ≤ last_moment }
+    {
+        self.moment.max(reading.min(LAST_MOMENT))
+    }
+
     // The entry of an act at this reading of the clock.
     fn entry(&self, reading: u64, caller: u64, conn: u32, act: Act) -> Entry
         ensures value { result ≡ entry_of self.now reading caller conn act }
         ensures early { moment_at self.now reading ≤ last_moment }
     {
-        let moment = self.moment.max(reading.min(LAST_MOMENT));
         Entry {
-            moment,
+            moment: self.moment_at(reading),
             caller,
             conn,
             act,

@@ -3,12 +3,17 @@ ghost use Rattle.lr_server.specs.Server.{act_of};
 
 use crate::{Answer, Channels, Request, ServerState, StepFault};
 use lr_names::{Channel, Kind, Name, Owner, Push, Wakes};
-use lr_objects::{Call, LockCall, Op, Reply};
+use lr_objects::{
+    Access, Call, Function, Lease, LockCall, Op, ReadWriteCall, ReadWriteFunction, Reply, Want,
+};
 use std::alloc::{AllocError, Global};
 use std::test::Fail;
+use uuid::Uuid;
 
 // Thread 1 of the client whose number is 1.
 const OWNER: &[u8] = b"00000000-0000-0000-0000-000000000001:1";
+
+const OTHER: &[u8] = b"00000000-0000-0000-0000-000000000001:2";
 
 // Whether an open connection is answered so, and the message of its call reaches so many.
 fn answers(
@@ -118,6 +123,41 @@ fn a_subscriber_is_told(rt: HostRuntime) -> Result<(), Fail> {
     let mut server = ServerState::new(rt.alloc(), 1)?;
     let answered = all_is_answered(&mut server, &request, channel, owner)?;
     assert!(rt; answered);
+    Ok(())
+}
+
+// Whether one who wants to read is seen to wait for as long as another writes, with no entry.
+fn looks(
+    server: &mut ServerState,
+    name: Name,
+    writer: Owner,
+    reader: &Owner,
+) -> Result<bool, StepFault> {
+    let write = Request::Call(Op {
+        name,
+        call: Call::ReadWrite(ReadWriteCall::Take {
+            access: Access::Write,
+            owner: writer,
+            lease: 1000,
+        }),
+    });
+    let granted = answers(server, 0, &write, Answer::Reply(Reply::Granted), 0)?;
+    let want = Want {
+        function: Function::ReadWrite(ReadWriteFunction::Read),
+        name,
+        lease: Lease::Watch,
+        number: 0,
+        id: Uuid::nil(),
+    };
+    let waits = server.would_wait(999, &want, reader) && !server.would_wait(1000, &want, reader);
+    Ok(granted && waits && server.history().len() == 1)
+}
+
+#[test]
+fn a_look(rt: HostRuntime) -> Result<(), Fail> {
+    let (one, two) = (Owner::parse(OWNER)?, Owner::parse(OTHER)?);
+    let mut server = ServerState::new(rt.alloc(), 1)?;
+    assert!(rt; looks(&mut server, Name::parse(b"a")?, one, &two)?);
     Ok(())
 }
 
