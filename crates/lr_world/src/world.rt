@@ -107,8 +107,8 @@ impl World {
         Ok(shown)
     }
 
-    /// What stands for each thread that sleeps, in order of clients, and then of threads. It looks
-    /// at all threads of all clients.
+    /// What stands now for each thread that sleeps, in order of clients, and then of threads. It
+    /// looks at all threads of all clients.
     pub fn stands(&self) -> Result<Standings, AllocError>
         ensures { IfOk result (λ s. s ≡ standings_of (world_of self.now)) }
     {
