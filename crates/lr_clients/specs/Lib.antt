@@ -1,4 +1,5 @@
 pub mod Client
 pub mod Rows
 pub mod Items
+pub mod SleeperValue
 pub mod Stands

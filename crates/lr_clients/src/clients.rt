@@ -1,21 +1,22 @@
 ghost use Rattle.std.specs.Prelude.{◌≡◌, ◌≤◌, ◌==◌, false, Some, Ok, IfOk, IfSome, OnOk, OnErr};
 ghost use Rattle.lr_limits.specs.Limits.{last_moment, thread_limit};
-ghost use Rattle.lr_names.specs.Channel.{channel_wakes};
 ghost use Rattle.lr_names.specs.Owner.{IsThread};
-ghost use Rattle.lr_names.specs.declared.kind.Wakes.TheVariants.{One};
+ghost use Rattle.lr_objects.specs.Function.{arguments_of};
+ghost use Rattle.lr_objects.specs.Want.{HasAmount};
 ghost use Rattle.lr_model.specs.Table.{put};
 ghost use Rattle.lr_waiting.specs.Client.{asked_of, cut_client, client_row, with_reply};
 ghost use Rattle.lr_waiting.specs.Latch.{first_order_of};
-ghost use Rattle.lr_waiting.specs.Session.{order_taken, pushed};
+ghost use Rattle.lr_waiting.specs.Session.{channel_for, order_taken, pushed};
 ghost use Rattle.lr_machine.specs.declared.shown.Shown.TheVariants as shows;
 ghost use Rattle.lr_machine.specs.Shown.{shown_item};
 ghost use Rattle.lr_machine.specs.Within.{IsClient, IsWithin, MayBegin};
 ghost use Rattle.lr_machine.specs.World.{clients_after, first_client, unless_cut};
 ghost use Rattle.lr_clients.specs.Client.{clients_of, room_at};
 ghost use Rattle.lr_clients.specs.Rows.{client_alone, found_in, row_by, shown_by};
-ghost use Rattle.lr_clients.specs.Stands.{asleep_on, stand_where};
+ghost use Rattle.lr_clients.specs.Stands.{sleeper_of, stand_where_all, stand_where_one};
 
 use crate::client::ClientState;
+use crate::sleeper::Sleeper;
 use lr_limits::MOST_CLIENTS;
 use lr_machine::{Event, Shown, ThreadId};
 use lr_names::{Channel, Push};
@@ -159,23 +160,34 @@ impl ClientTable {
         self.rows[(client - 1) as usize].push(item)
     }
 
-    /// The channel on which a thread sleeps, if it does. Only those sleep yet whose channel wakes
-    /// one.
-    pub fn asleep_on(&self, client: u32, thread: u32) -> Option<Channel>
-        requires client { IsClient client }
-        requires thread { IsThread thread }
-        ensures value { result ≡ asleep_on (clients_of self.now client) thread }
-        ensures wakes { IfSome result (λ channel. channel_wakes channel.kind ≡ One) }
+    /// A thread that sleeps, with what it waits for: `None` where it doesn't sleep.
+    pub fn asleep(&self, client: u32, thread: u32) -> Option<Sleeper>
+        requires { IsClient client }
+        ensures value { result ≡ sleeper_of (clients_of self.now client) thread }
+        ensures channel { IfSome result (λ sleeper. sleeper.channel
+            ≡ channel_for sleeper.owner sleeper.want) }
+        ensures amount { IfSome result (λ sleeper.
+            HasAmount (arguments_of sleeper.want.function) sleeper.want) }
     {
-        self.rows[(client - 1) as usize].asleep_on(thread)
+        self.rows[(client - 1) as usize].asleep(thread)
     }
 
-    /// What stands for the threads of a client that sleep on a channel, where it is known whether a
-    /// message is in flight. It looks at all threads of the client.
-    pub fn stand(&self, client: u32, channel: &Channel, in_flight: bool) -> Stand
+    /// What stands for the threads of a client that sleep on a channel whose messages wake one,
+    /// where it is known whether a message is in flight. It looks at all threads of the client.
+    pub fn stand_of_one(&self, client: u32, channel: &Channel, in_flight: bool) -> Stand
         requires { IsClient client }
-        ensures { result ≡ stand_where in_flight channel.now (clients_of self.now client) }
+        ensures { result ≡ stand_where_one in_flight channel.now (clients_of self.now client) }
     {
-        self.rows[(client - 1) as usize].stand(channel, in_flight)
+        self.rows[(client - 1) as usize].stand_of_one(channel, in_flight)
+    }
+
+    /// What stands for a thread of a client that sleeps on a channel whose messages wake all, where
+    /// it is known whether its call would be refused, and whether a message is in flight.
+    pub fn stand_of_all(&self, client: u32, sleeper: &Sleeper, held: bool, in_flight: bool) -> Stand
+        requires { IsClient client }
+        ensures { result
+            ≡ stand_where_all held in_flight sleeper.now (clients_of self.now client) }
+    {
+        self.rows[(client - 1) as usize].stand_of_all(sleeper, held, in_flight)
     }
 }

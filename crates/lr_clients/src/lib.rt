@@ -6,9 +6,11 @@ mod client;
 mod clients;
 mod items;
 mod replies;
+mod sleeper;
 mod stands;
 #[cfg(test)]
 mod tests;
 mod threads;
 
 pub use clients::ClientTable;
+pub use sleeper::Sleeper;

@@ -1,14 +1,16 @@
 //! What stands for the threads of a client that sleep.
 ghost use Rattle.std.specs.Prelude.{◌≡◌, true, IfSome};
 ghost use Rattle.std.specs.List.{list_any};
-ghost use Rattle.lr_names.specs.Channel.{channel_wakes};
-ghost use Rattle.lr_names.specs.declared.kind.Wakes.TheVariants.{One};
-ghost use Rattle.lr_waiting.specs.Stand.{due_at, due_of, gets_on, is_awake, is_awake_at, least_due, lesser, moment_due, threads_with, waits_at};
+ghost use Rattle.lr_objects.specs.Function.{arguments_of};
+ghost use Rattle.lr_objects.specs.Want.{HasAmount};
+ghost use Rattle.lr_waiting.specs.Session.{channel_for};
+ghost use Rattle.lr_waiting.specs.Stand.{due_at, due_of, gets_on, is_awake, is_awake_at, least_due, lesser, moment_due, threads_with, timer_or_nobody, waits_at};
 ghost use Rattle.lr_session.specs.Value.{IsRequest, IsStage};
 ghost use Rattle.lr_clients.specs.Client.{client_of};
-ghost use Rattle.lr_clients.specs.Stands.{asleep_on, stand_where};
+ghost use Rattle.lr_clients.specs.Stands.{sleeper_of, stand_where_all, stand_where_one};
 
 use crate::client::ClientState;
+use crate::sleeper::Sleeper;
 use lr_limits::MOST_THREADS;
 use lr_names::{Channel, Due};
 use lr_objects::{Function, Reply};
@@ -17,25 +19,32 @@ use lr_waiting::{Stage, Stand, Waiter};
 
 // Thread 0 never has a request, so that the loops here are over the numbers 0 to 256.
 impl ClientState {
-    /// The channel on which a thread sleeps, if it does. Only those sleep yet whose channel wakes
-    /// one.
-    pub(crate) fn asleep_on(&self, thread: u32) -> Option<Channel>
-        ensures value { result ≡ asleep_on (client_of self.now) thread }
-        ensures wakes { IfSome result (λ channel. channel_wakes channel.kind ≡ One) }
+    /// A thread that sleeps, with what it waits for.
+    pub(crate) fn asleep(&self, thread: u32) -> Option<Sleeper>
+        ensures value { result ≡ sleeper_of (client_of self.now) thread }
+        ensures channel { IfSome result (λ sleeper. sleeper.channel
+            ≡ channel_for sleeper.owner sleeper.want) }
+        ensures amount { IfSome result (λ sleeper.
+            HasAmount (arguments_of sleeper.want.function) sleeper.want) }
     {
         let Some(waiter) = self.session.waiter(thread) else {
             return None;
         };
         match waiter.stage {
-            Stage::Asleep(_) => Some(self.session.channel(thread, &waiter.want)),
+            Stage::Asleep(refusal) => Some(Sleeper {
+                channel: self.session.channel(thread, &waiter.want),
+                want: waiter.want,
+                owner: self.session.owner(thread),
+                refusal,
+            }),
             _ => None,
         }
     }
 
-    /// What stands for the threads that sleep on a channel, where it is known whether a message is
-    /// in flight.
-    pub(crate) fn stand(&self, channel: &Channel, in_flight: bool) -> Stand
-        ensures { result ≡ stand_where in_flight channel.now (client_of self.now) }
+    /// What stands for the threads that sleep on a channel whose messages wake one, where it is
+    /// known whether a message is in flight.
+    pub(crate) fn stand_of_one(&self, channel: &Channel, in_flight: bool) -> Stand
+        ensures { result ≡ stand_where_one in_flight channel.now (client_of self.now) }
     {
         if in_flight {
             return Stand::Message;
@@ -46,10 +55,24 @@ impl ClientState {
         if self.has_awake(channel) {
             return Stand::Awake;
         }
-        match self.least_due(channel) {
-            Some(moment) => Stand::Timer(moment),
-            None => Stand::Nobody,
+        timer_or_nobody(self.least_due(channel))
+    }
+
+    /// What stands for a thread that sleeps on a channel whose messages wake all, where it is known
+    /// whether its call would be refused and whether a message is in flight.
+    pub(crate) fn stand_of_all(&self, sleeper: &Sleeper, held: bool, in_flight: bool) -> Stand
+        ensures { result ≡ stand_where_all held in_flight sleeper.now (client_of self.now) }
+    {
+        if held {
+            return Stand::Held;
         }
+        if in_flight {
+            return Stand::Message;
+        }
+        if self.session.seen(&sleeper.channel) != sleeper.refusal.seen {
+            return Stand::Broadcast;
+        }
+        timer_or_nobody(moment_due(sleeper.refusal.due))
     }
 
     // Whether a thread is awake that waits at the latch of a channel.
@@ -156,6 +179,16 @@ fn moment_due(due: Due) -> Option<u64>
     match due {
         Due::At(moment) => Some(moment),
         Due::Never => None,
+    }
+}
+
+// A timer at a moment, or nothing where there is none.
+fn timer_or_nobody(moment: Option<u64>) -> Stand
+    ensures { result ≡ timer_or_nobody moment }
+{
+    match moment {
+        Some(moment) => Stand::Timer(moment),
+        None => Stand::Nobody,
     }
 }
 

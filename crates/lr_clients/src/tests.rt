@@ -4,9 +4,9 @@ ghost use Rattle.lr_clients.specs.Rows.{client_alone};
 
 use crate::ClientTable;
 use lr_machine::{Event, Found, Shown, ThreadId};
-use lr_names::Name;
-use lr_objects::{Function, Lease, LockFunction, Mode, Reply, Want};
-use lr_waiting::{Asking, Phase};
+use lr_names::{Channel, Kind, Name, Push, Wakes};
+use lr_objects::{Function, Lease, LockFunction, Mode, ReadWriteFunction, Remaining, Reply, Want};
+use lr_waiting::{Asking, Phase, Stand};
 use std::alloc::{AllocError, Global};
 use std::test::Fail;
 use uuid::Uuid;
@@ -23,6 +23,26 @@ fn begin(name: &Name) -> Event
         mode: Mode::Long,
         want: Want {
             function: Function::Lock(LockFunction::Try),
+            name: *name,
+            lease: Lease::For(1_000),
+            number: 0,
+            id: Uuid::nil(),
+        },
+    }
+}
+
+// And one to read.
+fn begin_read(name: &Name) -> Event
+    ensures alone { client_alone result ≡ Some 1 }
+    ensures within { IsWithin result }
+    ensures begins { MayBegin result }
+{
+    Event::Begin {
+        client: 1,
+        thread: 1,
+        mode: Mode::Long,
+        want: Want {
+            function: Function::ReadWrite(ReadWriteFunction::Read),
             name: *name,
             lease: Lease::For(1_000),
             number: 0,
@@ -118,6 +138,62 @@ fn is_cut_off(clients: &mut ClientTable, name: &Name) -> bool {
         && !clients.is_cut(2)
 }
 
+// Whether its call is sent at 100, and answered with 400 ms that another holds the lock for.
+fn is_refused(clients: &mut ClientTable) -> bool {
+    let (client, thread) = (1, 1);
+    let asked = clients.step(1, 100, &Event::Ask { client, thread }).is_ok();
+    answer(clients, Reply::Busy(Remaining::new(400)));
+    asked
+        && clients
+            .step(1, 100, &Event::Take { client, thread })
+            .is_ok()
+}
+
+// Whether client 1 takes an item that the server has sent it.
+fn hears(clients: &mut ClientTable, item: &Push) -> bool {
+    if clients.is_cut(1) {
+        return false;
+    }
+    if clients.reserve(1).is_err() {
+        return false;
+    }
+    !matches!(clients.push(1, item), Shown::No(_))
+}
+
+// Whether a thread that wants to read sleeps once it was refused while its client hears the channel.
+fn falls_asleep(clients: &mut ClientTable, channel: Channel, name: &Name) -> bool {
+    let (client, thread) = (1, 1);
+    clients.step(1, 90, &begin_read(name)).is_ok()
+        && is_refused(clients)
+        && hears(clients, &Push::Subscribed(channel, 1))
+        && is_refused(clients)
+        && clients.asleep(1, 1).is_none()
+        && clients
+            .step(1, 100, &Event::Check { client, thread })
+            .is_ok()
+}
+
+// Whether this stands for the thread, where it sleeps.
+fn stands(clients: &ClientTable, held: bool, in_flight: bool, stand: Stand) -> bool {
+    match clients.asleep(1, 1) {
+        Some(sleeper) => clients.stand_of_all(1, &sleeper, held, in_flight) == stand,
+        None => false,
+    }
+}
+
+// Whether what stands for a reader is the first of these that is there, the timer last.
+fn stands_in_order(alloc: Global, channel: Channel, name: &Name) -> Result<bool, AllocError> {
+    let mut clients = ClientTable::new(alloc)?;
+    Ok(
+        falls_asleep(&mut clients, channel, name)
+            && stands(&clients, true, true, Stand::Held)
+            && stands(&clients, false, true, Stand::Message)
+            && stands(&clients, false, false, Stand::Timer(500))
+            && hears(&mut clients, &Push::Message(channel, Wakes::All))
+            && stands(&clients, false, false, Stand::Broadcast),
+    )
+}
+
 fn threads_ask(alloc: Global, name: &Name) -> Result<bool, AllocError> {
     let mut clients = ClientTable::new(alloc)?;
     Ok(begins(&mut clients, name) && asks(&mut clients) && takes(&mut clients))
@@ -133,5 +209,6 @@ fn clients_step(rt: HostRuntime) -> Result<(), Fail> {
     let name = Name::parse(b"a")?;
     assert!(rt; threads_ask(rt.alloc(), &name)?);
     assert!(rt; clients_are_cut_off(rt.alloc(), &name)?);
+    assert!(rt; stands_in_order(rt.alloc(), Channel::of(Kind::Rw, &name), &name)?);
     Ok(())
 }

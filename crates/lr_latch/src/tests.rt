@@ -62,16 +62,30 @@ fn locks_wake_one(alloc: Global, channel: &Channel) -> bool {
         && leaves(&mut latches, channel)
 }
 
-// Whether a message wakes both of two threads of a latch that wakes all.
+// Whether a message to two threads counts once, and gives no permit.
+fn counts_once(latches: &mut Latches, channel: &Channel) -> bool {
+    latches.deliver(channel);
+    latches.seen(channel) == 1 && latches.permits(channel) == 0
+}
+
+// Whether who noted the number before the message is awake, at the look before sleep and asleep, and
+// who noted the number after it isn't.
+fn wakes_by_number(latches: &mut Latches, channel: &Channel) -> bool {
+    finds(latches, channel, Checked::Broadcast)
+        && latches.wake(channel, 0) == Woken::Broadcast
+        && latches.check(channel, 1, Due::Never, 499) == Checked::Sleep
+        && latches.wake(channel, 1) == Woken::NotYet
+}
+
+// Whether a message wakes both of two threads of a latch that wakes all, of which one that leaves
+// hands nothing on.
 fn latches_wake_all(alloc: Global, channel: &Channel) -> bool {
     let mut latches = Latches::new(alloc);
-    let joined = joins(&mut latches, channel);
-    latches.deliver(channel);
-    joined
-        && latches.seen(channel) == 1
-        && finds(&mut latches, channel, Checked::Broadcast)
-        && latches.wake(channel, 0) == Woken::Broadcast
-        && latches.wake(channel, 1) == Woken::NotYet
+    let woken = joins(&mut latches, channel)
+        && counts_once(&mut latches, channel)
+        && wakes_by_number(&mut latches, channel);
+    latches.leave(channel);
+    woken && latches.permits(channel) == 0 && latches.seen(channel) == 1
 }
 
 // Whether an acknowledgement of an order that was taken back isn't one of the next order.

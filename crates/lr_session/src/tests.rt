@@ -6,7 +6,7 @@ ghost use Rattle.lr_waiting.specs.Begin.{CanBegin};
 
 use crate::{Pushed, SessionFault, SessionState};
 use lr_names::{Channel, Due, Kind, Name, Push, Wakes};
-use lr_objects::{Function, Lease, LockFunction, Mode, Remaining, Reply, Want};
+use lr_objects::{Function, Lease, LockFunction, Mode, ReadWriteFunction, Remaining, Reply, Want};
 use lr_waiting::{Ask, CheckedStep, GaveUp, Phase, Taken, WokenStep};
 use std::alloc::Global;
 use std::test::Fail;
@@ -18,6 +18,19 @@ fn lock(name: &Name) -> Want
 {
     Want {
         function: Function::Lock(LockFunction::Try),
+        name: *name,
+        lease: Lease::For(1_000),
+        number: 0,
+        id: Uuid::nil(),
+    }
+}
+
+// A request to read, with the same lease.
+fn read(name: &Name) -> Want
+    ensures { CanBegin modes.Long result }
+{
+    Want {
+        function: Function::ReadWrite(ReadWriteFunction::Read),
         name: *name,
         lease: Lease::For(1_000),
         number: 0,
@@ -136,6 +149,51 @@ fn threads_share(alloc: Global, channel: Channel, name: &Name) -> bool {
         && ends(&mut session)
 }
 
+// Whether a thread that wants to read is refused, and waits until its client hears the channel.
+fn joins_readers(session: &mut SessionState, thread: u32, name: &Name) -> bool
+    requires { IsThread thread }
+{
+    session.begin(thread, Mode::Long, &read(name)).is_ok()
+        && asks(session, thread, 90)
+        && busy(session, thread, Phase::Joining)
+}
+
+// Whether a message wakes all who wait, and so many such messages have come then.
+fn broadcasts(session: &mut SessionState, channel: Channel, number: u64) -> bool {
+    match session.push(&Push::Message(channel, Wakes::All)) {
+        Ok(Pushed::Message(_, told)) => told == number && session.seen(&channel) == number,
+        _ => false,
+    }
+}
+
+// Whether a thread that asked before a message, and takes its reply after it, is awake at its look.
+fn notes_at_ask(session: &mut SessionState, channel: Channel) -> bool {
+    asks(session, 1, 100)
+        && broadcasts(session, channel, 1)
+        && busy(session, 1, Phase::Refused)
+        && matches!(session.check(1, 499), Ok(CheckedStep::Broadcast(_)))
+}
+
+// Whether two threads sleep that asked after the message, and one further message wakes both.
+fn wakes_both(session: &mut SessionState, channel: Channel) -> bool {
+    sleeps(session, 1)
+        && sleeps(session, 2)
+        && session.wake(2).is_err()
+        && broadcasts(session, channel, 2)
+        && matches!(session.wake(1), Ok(WokenStep::Broadcast(_)))
+        && matches!(session.wake(2), Ok(WokenStep::Broadcast(_)))
+}
+
+fn readers_wake(alloc: Global, channel: Channel, name: &Name) -> bool {
+    let mut session = client(alloc);
+    session.reserve().is_ok()
+        && joins_readers(&mut session, 1, name)
+        && joins_readers(&mut session, 2, name)
+        && hears(&mut session, channel, 2)
+        && notes_at_ask(&mut session, channel)
+        && wakes_both(&mut session, channel)
+}
+
 // Whether an old ticket lets nobody send a call.
 fn old_ticket(alloc: Global, name: &Name) -> bool {
     let mut session = client(alloc);
@@ -177,6 +235,7 @@ fn clients_wait(rt: HostRuntime) -> Result<(), Fail> {
     let name = Name::parse(b"a")?;
     let channel = Channel::of(Kind::Mutex, &name);
     assert!(rt; threads_share(rt.alloc(), channel, &name));
+    assert!(rt; readers_wake(rt.alloc(), Channel::of(Kind::Rw, &name), &name));
     assert!(rt; old_ticket(rt.alloc(), &name));
     assert!(rt; cut_off(rt.alloc(), channel, &name));
     Ok(())

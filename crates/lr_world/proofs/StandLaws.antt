@@ -1,27 +1,36 @@
--- What stands for a thread that sleeps, where its channel's messages wake one.
-use Rattle.std.proofs.Common.{◌≡◌, ◌+◌, ℕ, suc, nat_lt, List, [], ◌∷◌, ◌++◌, Bool, true, ◌||◌, if◌then◌else◌, Option, Some, None, refl, ap, sym, ◌∙◌, append-nil, append_assoc, arith}
+-- What stands for a thread that sleeps, and the lists of all who sleep.
+use Rattle.std.proofs.Common.{◌≡◌, ◌+◌, ◌≤◌, ℕ, suc, nat_lt, List, [], ◌∷◌, ◌++◌, Bool, true, ◌||◌, if◌then◌else◌, Option, Some, None, refl, ap, sym, ◌∙◌, append-nil, append_assoc, arith}
 use Rattle.std.proofs.lemmas.Bool.{lt-ltb}
 use Rattle.std.specs.List.{list_any}
+use Rattle.lr_limits.specs.Limits.{last_moment}
 use Rattle.lr_names.specs.Channel.{ChannelOf, channel_wakes}
+use Rattle.lr_names.specs.Owner.{ThreadOfClient}
 use Rattle.lr_names.specs.declared.kind.Wakes.{Wakes}
-use Rattle.lr_names.specs.declared.kind.Wakes.TheVariants.{One}
+use Rattle.lr_names.specs.declared.kind.Wakes.TheVariants.{One, All}
 use Rattle.lr_names.specs.declared.post.Push.{Push}
 use Rattle.lr_names.specs.declared.post.Push.TheVariants.{Subscribed, Unsubscribed, Message}
+use Rattle.lr_objects.specs.declared.want.Want.{Want}
 use Rattle.lr_model.proofs.ReadWriteFacts.{none_some, some_one}
 use Rattle.lr_machine.specs.Shown.{stand_in, standing_at, standings_among, standings_in}
-use Rattle.lr_machine.specs.World.{World}
+use Rattle.lr_machine.specs.Clients.{subscription_connection}
+use Rattle.lr_machine.specs.World.{World, first_state}
 use Rattle.lr_model.specs.Board.{numbers_below}
-use Rattle.lr_model.specs.History.{State}
-use Rattle.lr_pubsub.specs.Connection.{is_message_of}
+use Rattle.lr_model.specs.History.{State, after}
+use Rattle.lr_pubsub.specs.Connection.{is_in_flight, is_message_of}
+use Rattle.lr_server.specs.Server.{ServerValue, connection_of, moment_at, state_of}
 use Rattle.lr_waiting.specs.declared.stand.Stand.{Stand}
 use Rattle.lr_waiting.specs.declared.stand.Standing.{Standing}
+use Rattle.lr_waiting.specs.declared.waiter.Refusal.{Refusal}
 use Rattle.lr_waiting.specs.declared.waiter.Stage.{Stage}
 use Rattle.lr_waiting.specs.declared.waiter.Stage.TheVariants.{Asleep}
 use Rattle.lr_waiting.specs.declared.waiter.Waiter.{Waiter}
-use Rattle.lr_waiting.specs.Client.{Client}
+use Rattle.lr_waiting.specs.Client.{Client, waiter_in}
 use Rattle.lr_waiting.specs.Session.{channel_in}
-use Rattle.lr_waiting.specs.Stand.{in_flight, is_message_on, stand_at, stand_by, stand_with}
-use Rattle.lr_clients.specs.Stands.{asleep_in, asleep_with, stand_where}
+use Rattle.lr_waiting.specs.Stand.{in_flight, is_message_on, is_refused, stand_at, stand_by, stand_of, stand_with}
+use Rattle.lr_clients.specs.declared.sleeper.Sleeper.{Sleeper}
+use Rattle.lr_clients.specs.Stands.{sleeper_at, sleeper_in, sleeper_of, sleeper_with, stand_where_all, stand_where_one}
+use Rattle.lr_world.specs.Steps.{heard_on}
+use Rattle.lr_world.proofs.Servers.{connection_is, moment_is, state_is}
 
 -- the server's test and that of a client agree
 same_test : (channel : ChannelOf) (item : Push)
@@ -30,33 +39,74 @@ same_test channel (Message other wakes) = refl
 same_test channel (Subscribed other count) = refl
 same_test channel (Unsubscribed other count) = refl
 
-pub same_flight : (channel : ChannelOf) (outbox : List Push)
+same_flight : (channel : ChannelOf) (outbox : List Push)
     → list_any (is_message_of channel) outbox ≡ in_flight channel outbox
 same_flight channel [] = refl
 same_flight channel (item ∷ items) =
     (λ i. same_test channel item i || same_flight channel items i)
 
--- the thread sleeps on a channel
-pub stand-asleep : (state : State) (moment : ℕ) (outbox : List Push) (client : Client)
-    (thread : ℕ) (channel : ChannelOf) (found : Option Waiter)
-    → asleep_with client thread found ≡ Some channel → channel_wakes channel.kind ≡ One
-    → Some (stand_where (in_flight channel outbox) channel client)
+-- whether a message is in flight to a client, as its server tells
+pub flight-is : (server : ServerValue) → server.last ≡ 128 → (channel : ChannelOf)
+    (client conn : ℕ) → conn ≡ subscription_connection client
+    → is_in_flight channel (connection_of server conn)
+    ≡ in_flight channel (heard_on server.entries client).outbox
+flight-is server first channel client conn is =
+    ap (λ (n : ℕ). is_in_flight channel (connection_of server n)) is
+    ∙ ap (is_in_flight channel) (connection_is server first (subscription_connection client))
+    ∙ same_flight channel (heard_on server.entries client).outbox
+
+-- whether a call would be refused, as the server tells at a moment that isn't before its own
+pub refusal-is : (server : ServerValue) → server.last ≡ 128 → (moment : ℕ)
+    → (after first_state server.entries).moment ≤ moment → moment ≤ last_moment
+    → (owner : ThreadOfClient) (want : Want)
+    → is_refused (state_of server).objects (moment_at server moment) owner want
+    ≡ is_refused (after first_state server.entries).objects moment owner want
+refusal-is server first moment in_time early owner want =
+    (λ i. is_refused (state_is server first i).objects
+    (moment_is server first moment in_time early i) owner want)
+
+-- what is told to stand for a thread, on a channel that wakes so many
+abbrev pub stand_told : Wakes → State → ℕ → List Push → Client → Sleeper → Stand
+stand_told One state moment outbox client sleeper =
+    stand_where_one (in_flight sleeper.channel outbox) sleeper.channel client
+stand_told All state moment outbox client sleeper =
+    stand_where_all (is_refused state.objects moment sleeper.owner sleeper.want)
+    (in_flight sleeper.channel outbox) sleeper client
+
+-- it is what stands for it
+stand-found : (state : State) (moment : ℕ) (outbox : List Push) (client : Client)
+    (thread : ℕ) (sleeper : Sleeper) (found : Option Waiter)
+    → sleeper_with client thread found ≡ Some sleeper
+    → Some (stand_told (channel_wakes sleeper.channel.kind) state moment outbox client sleeper)
     ≡ stand_with state moment outbox client thread found
-stand-asleep state moment outbox client thread channel None is one =
-    absurd (none_some channel (sym is))
-stand-asleep state moment outbox client thread channel (Some waiter) is one =
-    by waiter.stage is
+stand-found state moment outbox client thread sleeper None is =
+    absurd (none_some sleeper (sym is))
+stand-found state moment outbox client thread sleeper (Some waiter) is = by waiter.stage is
   where
-    by : (stage : Stage) → asleep_in client thread waiter stage ≡ Some channel
-        → Some (stand_where (in_flight channel outbox) channel client)
+    by_wakes : (refusal : Refusal) (wakes : Wakes)
+        → stand_told wakes state moment outbox client (sleeper_in client thread waiter refusal)
+        ≡ stand_by wakes state moment outbox client thread waiter refusal
+    by_wakes refusal One = refl
+    by_wakes refusal All = refl
+
+    by : (stage : Stage) → sleeper_at client thread waiter stage ≡ Some sleeper
+        → Some (stand_told (channel_wakes sleeper.channel.kind) state moment outbox client sleeper)
         ≡ stand_at state moment outbox client thread waiter stage
     by (Asleep refusal) is =
-        let same : channel ≡ channel_in client.session thread waiter = sym (some_one _ _ is) in
-        let wakes : One ≡ channel_wakes (channel_in client.session thread waiter).kind =
-        sym one ∙ ap (λ (found : ChannelOf). channel_wakes found.kind) same in
-        ap (λ (found : ChannelOf). Some (stand_where (in_flight found outbox) found client)) same
-        ∙ ap (λ (wakes : Wakes). Some (stand_by wakes state moment outbox client thread waiter refusal)) wakes
-    by _ is = absurd (none_some channel (sym is))
+        ap (λ (s : Sleeper). Some (stand_told (channel_wakes s.channel.kind) state moment outbox client s))
+        (sym (some_one _ _ is))
+        ∙ ap Some (by_wakes refusal (channel_wakes (channel_in client.session thread waiter).kind))
+    by _ is = absurd (none_some sleeper (sym is))
+
+pub stand-asleep : (state : State) (moment : ℕ) (outbox : List Push) (client : Client)
+    (thread : ℕ) (sleeper : Sleeper) (wakes : Wakes) (stand : Stand)
+    → sleeper_of client thread ≡ Some sleeper → wakes ≡ channel_wakes sleeper.channel.kind
+    → stand ≡ stand_told wakes state moment outbox client sleeper
+    → Some stand ≡ stand_of state moment outbox client thread
+stand-asleep state moment outbox client thread sleeper wakes stand sleeps so told =
+    ap Some told
+    ∙ ap (λ (w : Wakes). Some (stand_told w state moment outbox client sleeper)) so
+    ∙ stand-found state moment outbox client thread sleeper (waiter_in client thread) sleeps
 
 -- The lists of all who sleep, one number more at the end.
 

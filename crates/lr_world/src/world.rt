@@ -107,12 +107,12 @@ impl World {
         Ok(shown)
     }
 
-    /// What stands for each thread that sleeps, in order of clients, and then of threads. It looks
-    /// at all threads of all clients.
+    /// What stands now for each thread that sleeps, in order of clients, and then of threads. It
+    /// looks at all threads of all clients.
     pub fn stands(&self) -> Result<Standings, AllocError>
         ensures { IfOk result (λ s. s ≡ standings_of (world_of self.now)) }
     {
-        standings(self.alloc, &self.server, &self.clients)
+        standings(self.alloc, &self.server, &self.clients, self.moment)
     }
 
     /// What the server has done, in order.
@@ -209,7 +209,7 @@ fn serve(
         }
         Event::Force(name) => force(server, clients, *moment, name),
         Event::Cut { client } => Ok(cut(server, clients, *moment, client)),
-        Event::Show => Ok(Shown::Standings(standings(alloc, server, clients)?)),
+        Event::Show => Ok(Shown::Standings(standings(alloc, server, clients, *moment)?)),
         _ => unreachable!(),
     }
 }

@@ -8,8 +8,8 @@ use Rattle.lr_world.proofs.stands.push_client.Goals as goal
 use Rattle.lr_world.proofs.stands.push_client.Goals.{in-Some+in_ok-push, in_default}
 
 pub loop-before-init : goal.loop-before-init
-loop-before-init c = λ moment.
-    let world : World = world_with c.args.server.now.entries moment c.args.clients.now in
+loop-before-init c =
+    let world : World = world_with c.args.server.now.entries c.args.moment c.args.clients.now in
     sym (append-nil c.args.standings.now)
     ∙ ap (λ (threads : List ℕ). c.args.standings.now ++ standings_in world c.args.client threads)
     (sym to-none)
@@ -35,15 +35,15 @@ turned c =
         ++ standing_at c.args.client (c.loop-before.before + 1) stand) same
 
 pub loop-before-preserved : goal.loop-before-preserved
-loop-before-preserved c = λ moment.
-    thread-more (world_with c.args.server.now.entries moment c.args.clients.now) c.args.client
+loop-before-preserved c =
+    thread-more (world_with c.args.server.now.entries c.args.moment c.args.clients.now) c.args.client
     c.loop-before.before c.args.standings.now c.loop-before.standings c.match-stand.standings
-    c.stand.result (c.loop-before.invariant moment) (c.stand.ensures moment) (turned c)
+    c.stand.result c.loop-before.invariant c.stand.ensures (turned c)
 
 pub returns : goal.returns
-returns c = λ moment.
-    let world : World = world_with c.args.server.now.entries moment c.args.clients.now in
+returns c =
+    let world : World = world_with c.args.server.now.entries c.args.moment c.args.clients.now in
     let all : c.loop-before.before ≡ 256 = omega arith in
     subst (λ (n : ℕ). c.loop-before.standings
     ≡ c.args.standings.now ++ standings_in world c.args.client (numbers_to n)) all
-    (c.loop-before.invariant moment)
+    c.loop-before.invariant

@@ -5,6 +5,6 @@ use Rattle.lr_world.proofs.StandLaws.{numbers_to}
 use Rattle.lr_world.proofs.stands.push_client.Given as goal
 
 abbrev pub invariant-loop-before : goal.invariant-loop-before
-invariant-loop-before l = (moment : ℕ) → l.standings
-    ≡ l.fn.standings ++ standings_in (world_with l.server.entries moment l.clients) l.client
+invariant-loop-before l = l.standings
+    ≡ l.fn.standings ++ standings_in (world_with l.server.entries l.moment l.clients) l.client
     (numbers_to l.before)

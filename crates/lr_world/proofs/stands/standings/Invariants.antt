@@ -5,6 +5,6 @@ use Rattle.lr_world.proofs.StandLaws.{numbers_to}
 use Rattle.lr_world.proofs.stands.standings.Given as goal
 
 abbrev pub invariant-loop-before : goal.invariant-loop-before
-invariant-loop-before l = (moment : ℕ) → l.standings
-    ≡ standings_among (world_with l.server.entries moment l.clients) (numbers_to 256)
+invariant-loop-before l = l.standings
+    ≡ standings_among (world_with l.server.entries l.moment l.clients) (numbers_to 256)
     (numbers_to l.before)

@@ -16,7 +16,7 @@ returns-in-Exec-clause-next c =
 
 pub returns-in_ok-standings-in-Show-clause-shown : goal.returns-in_ok-standings-in-Show-clause-shown
 returns-in_ok-standings-in-Show-clause-shown c =
-    ap shows.Standings (c.in_ok-standings-in-Show.ensures c.args.moment.now)
+    ap shows.Standings c.in_ok-standings-in-Show.ensures
     ∙ ap (λ (event : Event). shown
     (world_with c.args.server.now.entries c.args.moment.now c.args.clients.now) event)
     (sym c.in-Show.is)

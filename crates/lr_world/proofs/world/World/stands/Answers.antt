@@ -7,4 +7,4 @@ use Rattle.lr_world.proofs.world.World.stands.Goals as goal
 pub returns : goal.returns
 returns c =
     subst (λ (v : WorldValue). IfOk c.standings.result (λ (s : List Standing).
-    s ≡ standings_of (world_of v))) c.self.view_is (c.standings.ensures c.self.inside.moment)
+    s ≡ standings_of (world_of v))) c.self.view_is c.standings.ensures
