@@ -62,13 +62,7 @@ fn waits_to_write(keys: &KeySpace, lock: &LockKeys, moment: u64, owner: &Owner) 
 /// keys where that is later. To read it waits while another writes. To write it waits while
 /// anybody holds the lock, unless it writes already. It is so for each lease of 1 to
 /// 86,400,000,000 milliseconds.
-pub fn would_wait(
-    keys: &KeySpace,
-    moment: u64,
-    name: &Name,
-    access: Access,
-    owner: &Owner,
-) -> bool
+pub fn would_wait(keys: &KeySpace, moment: u64, name: &Name, access: Access, owner: &Owner) -> bool
     ensures { let m = max keys.now.moment moment in (objects : Objects) (lease : ℕ)
         (function : ReadWriteFunction) → ReadWriteLocksStand keys.now objects
         → IsTrue (is_lease lease)
