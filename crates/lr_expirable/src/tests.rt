@@ -137,11 +137,7 @@ fn the_life_of_permits(rt: HostRuntime) -> Result<(), Fail> {
 fn a_look(rt: HostRuntime) -> Result<(), Fail> {
     let mut keys = KeySpace::new(rt.alloc())?;
     let name = Name::parse(b"a")?;
-    let ids = [
-        Uuid::from_u128(1),
-        Uuid::from_u128(2),
-        Uuid::from_u128(3),
-    ];
+    let ids = [Uuid::from_u128(1), Uuid::from_u128(2), Uuid::from_u128(3)];
     assert!(rt; looks(rt.alloc(), &mut keys, &name, &ids));
     Ok(())
 }
