@@ -89,8 +89,8 @@ impl World {
         // It has what the event made the server do, for whom and where, and nothing else.
         ensures once { OnOk result (deeds_of self.new.entries
             ≡ deeds_of self.old.entries ++ deeds_of_event (world_of self.old) event.now) }
-        // Whatever is told to stand for a sleeping thread whose channel wakes one is never nothing,
-        // and no timer that is later than the peak of its lock.
+        // Whatever is told to stand for a sleeping thread is never nothing, and no timer that is too
+        // late: later than the peak of its lock, or later than now where it waits for permits.
         ensures awake { NoWakeupIsLost (world_of self.new) }
         // Each event makes one entry at most, and two for each client that is cut off, so that no
         // event finds a full history.
