@@ -151,10 +151,11 @@ fn is_refused(clients: &mut ClientTable) -> bool {
 
 // Whether client 1 takes an item that the server has sent it.
 fn hears(clients: &mut ClientTable, item: &Push) -> bool {
-    if clients.is_cut(1) {
-        return false;
+    match clients.reserve(1) {
+        Ok(()) => {}
+        Err(_) => return false,
     }
-    if clients.reserve(1).is_err() {
+    if clients.is_cut(1) {
         return false;
     }
     !matches!(clients.push(1, item), Shown::No(_))
