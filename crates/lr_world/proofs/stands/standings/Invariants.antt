@@ -1,4 +1,4 @@
-use Rattle.std.proofs.Common.{◌≡◌, ℕ}
+use Rattle.std.proofs.Common.{◌≡◌}
 use Rattle.lr_machine.specs.Shown.{standings_among}
 use Rattle.lr_world.specs.World.{world_with}
 use Rattle.lr_world.proofs.StandLaws.{numbers_to}
