@@ -9,7 +9,6 @@ use Rattle.lr_turnstile.specs.declared.home.Home.{Home}
 use Rattle.lr_turnstile.specs.declared.view.View.{View}
 use Rattle.lr_turnstile.specs.Views.{entries_by, first_view, HasOwn, IsAlone}
 use Rattle.lr_turnstile.specs.Rule.{IsGate, Roster, Knows, occupied}
-use Rattle.lr_turnstile.proofs.Lists.{all_none}
 use Rattle.lr_turnstile.proofs.Moves.{even_if, alone_free, free_if, owns}
 
 -- The start.
@@ -80,7 +79,7 @@ module _ {V : Type 0} (stands : V → ℕ → List Entry → Type 0) where
       let f = free_if stands s g (even_if (length g.history) _ a.0) in
       let k = (g.roster.each seat v at).first alone.first in
       let ends : All (λ (other : ℕ × List Entry). entries_by other.0 g.history ≡ other.1) g.joined =
-          λ i d below. (g.roster.ended i d below).0 in record {
+      λ i d below. (g.roster.ended i d below).0 in record {
         value = f.value;
         at = t.4 0 (occupied f.value) (ap (λ hs. get_elem? hs 0) f.home);
         it_stands = subst (λ l. stands f.value 0 l) (sym a.1) f.it_stands;

@@ -1,5 +1,5 @@
 -- Joining a pass keeps the rule.
-use Rattle.std.proofs.Common.{◌≡◌, ◌≢◌, ◌⊎◌, ℕ, ◌+◌, ◌-◌, ◌<◌, ◌≤◌, Bool, true, false, cond, List, [], ◌∷◌, ◌++◌, length, set, refl, sym, ap, ◌∙◌, subst, inl, inr, ⊎_elim, arith, ltb, length-append}
+use Rattle.std.proofs.Common.{◌≡◌, ◌≢◌, ◌⊎◌, ℕ, ◌-◌, ◌<◌, ◌≤◌, Bool, true, false, cond, List, [], ◌∷◌, ◌++◌, length, set, refl, sym, ap, ◌∙◌, subst, inl, inr, ⊎_elim, arith, ltb, length-append}
 use Rattle.std.specs.List.{All}
 use Rattle.std.proofs.lemmas.List.{append-nil}
 use Rattle.std.proofs.lemmas.List.Elements.{All-append}
@@ -71,25 +71,25 @@ module _ (history : List Entry) (made out : ℕ) (joined : List (ℕ × List Ent
       ((u.caller, u.mine) ∷ [])
       ((r.each j x e).not_joined alive)
       (all_one (λ (p : ℕ × List Entry). x.caller ≢ p.0) (u.caller, u.mine)
-          (λ same. n (r.apart j other x u e its alive live same)))
+      (λ same. n (r.apart j other x u e its alive live same)))
 
   fits_both : Fits history both
   fits_both = longer_is v.seen u.seen
       (λ seen. Fits history (record v { seen = seen; out = v.out - 1; joined = v.joined ++ (u.caller, u.mine) ∷ [] }))
       (λ less.
-          let b = begins_longer v.seen ours.later u.seen theirs.later
-              (sym ours.begins ∙ theirs.begins) (omega arith) in
-          let mid : List Entry = entries_by v.caller b.0 in
-          let end : List Entry = entries_by v.caller theirs.later in
-          let parts : mid ++ end ≡ [] =
-              sym (entries_by-append v.caller b.0 theirs.later)
-              ∙ (ap (λ l. entries_by v.caller l) (sym b.2) ∙ ours.none_later) in record {
-            later = theirs.later;
-            begins = theirs.begins;
-            own = ap (λ l. entries_by v.caller l) b.1 ∙ (entries_by-append v.caller v.seen b.0
-                ∙ ((λ i. ours.own i ++ nil_left mid end parts i) ∙ append-nil v.mine));
-            none_later = nil_right mid end parts;
-          })
+      let b = begins_longer v.seen ours.later u.seen theirs.later
+      (sym ours.begins ∙ theirs.begins) (omega arith) in
+      let mid : List Entry = entries_by v.caller b.0 in
+      let end : List Entry = entries_by v.caller theirs.later in
+      let parts : mid ++ end ≡ [] =
+      sym (entries_by-append v.caller b.0 theirs.later)
+      ∙ (ap (λ l. entries_by v.caller l) (sym b.2) ∙ ours.none_later) in record {
+        later = theirs.later;
+        begins = theirs.begins;
+        own = ap (λ l. entries_by v.caller l) b.1 ∙ (entries_by-append v.caller v.seen b.0
+            ∙ ((λ i. ours.own i ++ nil_left mid end parts i) ∙ append-nil v.mine));
+        none_later = nil_right mid end parts;
+      })
       (λ _. record {
         later = ours.later;
         begins = ours.begins;
@@ -102,11 +102,12 @@ module _ (history : List Entry) (made out : ℕ) (joined : List (ℕ × List Ent
     fits = λ _. fits_both;
     number = (r.each seat v at).number;
     first = λ _. (
-        firsts.0,
-        firsts.1,
-        ap (λ n. n - 1) firsts.2,
-        ap (λ l. l ++ (u.caller, u.mine) ∷ []) firsts.3,
-        firsts.4);
+      firsts.0,
+      firsts.1,
+      ap (λ n. n - 1) firsts.2,
+      ap (λ l. l ++ (u.caller, u.mine) ∷ []) firsts.3,
+      firsts.4,
+    );
     not_joined = λ alive. not_among seat v (λ same. two (sym same)) at alive;
   }
 
@@ -136,9 +137,9 @@ module _ (history : List Entry) (made out : ℕ) (joined : List (ℕ × List Ent
   which j x e = ⊎_elim
       (λ (t : (j ≡ other) × (spent_view ≡ x)). inl t)
       (λ (t : (j ≢ other) × (get_elem? halfway j ≡ some x)). inr (⊎_elim
-          (λ (a : (j ≡ seat) × (both ≡ x)). inl a)
-          (λ (a : (j ≢ seat) × (get_elem? views j ≡ some x)). inr (a.0, t.0, a.1))
-          (at_set views seat j both x t.1)))
+      (λ (a : (j ≡ seat) × (both ≡ x)). inl a)
+      (λ (a : (j ≢ seat) × (get_elem? views j ≡ some x)). inr (a.0, t.0, a.1))
+      (at_set views seat j both x t.1)))
       (at_set halfway other j spent_view x e)
 
   each_now : (j : ℕ) (x : View) → Which j x → KnowsNow j x
@@ -155,10 +156,11 @@ module _ (history : List Entry) (made out : ℕ) (joined : List (ℕ × List Ent
   before : (j : ℕ) (x : View) → Which j x → x.is_spent ≡ false → Before j x
   before j x (inl t) alive = absurd (true≢false (ap (λ z. z.is_spent) t.1 ∙ alive))
   before j x (inr (inl t)) alive = (
-      v,
-      subst (λ z. get_elem? views z ≡ some v) (sym t.0) at,
-      ap (λ z. z.caller) (sym t.1),
-      ap (λ z. z.is_spent) (sym t.1))
+    v,
+    subst (λ z. get_elem? views z ≡ some v) (sym t.0) at,
+    ap (λ z. z.caller) (sym t.1),
+    ap (λ z. z.is_spent) (sym t.1),
+  )
   before j x (inr (inr t)) alive = (x, t.2, refl, refl)
 
   both_at : get_elem? joined_views seat ≡ some both
@@ -173,16 +175,16 @@ module _ (history : List Entry) (made out : ℕ) (joined : List (ℕ × List Ent
   saw_ours : v.seen ≡ history → both.seen ≡ history
   saw_ours all = longer_is v.seen u.seen (λ seen. seen ≡ history)
       (λ less.
-          let a = ap length theirs.begins in
-          let b = length-append u.seen theirs.later in
-          let c = ap length all in absurd (omega arith))
+      let a = ap length theirs.begins in
+      let b = length-append u.seen theirs.later in
+      let c = ap length all in absurd (omega arith))
       (λ _. all)
 
   saw_theirs : u.seen ≡ history → both.seen ≡ history
   saw_theirs all = longer_is v.seen u.seen (λ seen. seen ≡ history)
       (λ _. all)
       (λ le. (whole v.seen ours.later history ours.begins
-          (let c = ap length all in omega arith)).0)
+      (let c = ap length all in omega arith)).0)
 
   one_out : outside u ≡ 1
   one_out = λ i. cond (not_first i) 0 (cond (live i) 0 1)
@@ -200,7 +202,7 @@ module _ (history : List Entry) (made out : ℕ) (joined : List (ℕ × List Ent
       (λ (p : ℕ × List Entry). (entries_by p.0 history ≡ p.1) × (p.0 < made)) joined
       ((u.caller, u.mine) ∷ []) r.ended
       (all_one (λ (p : ℕ × List Entry). (entries_by p.0 history ≡ p.1) × (p.0 < made))
-          (u.caller, u.mine) (all_own history u theirs, (r.each other u its).number live))
+      (u.caller, u.mine) (all_own history u theirs, (r.each other u its).number live))
 
   pub roster_joined : Roster history made (out - 1) all_joined joined_views
   roster_joined = record {
@@ -209,7 +211,7 @@ module _ (history : List Entry) (made out : ℕ) (joined : List (ℕ × List Ent
         let a = before i x (which i x e) alive in
         let b = before j y (which j y f) alive' in
         r.apart i j a.0 b.0 a.1 b.1 (sym a.3 ∙ alive) (sym b.3 ∙ alive')
-            (sym a.2 ∙ (same ∙ b.2));
+        (sym a.2 ∙ (same ∙ b.2));
     known = r.known;
     ended = ended_now;
     counted =
@@ -218,27 +220,30 @@ module _ (history : List Entry) (made out : ℕ) (joined : List (ℕ × List Ent
         let l = length-append joined ((u.caller, u.mine) ∷ []) in omega arith;
     front = let w = r.front in dite (ℕ_discrete w.0 seat)
         (λ here. (
-            seat,
-            both,
-            both_at,
-            firsts.4,
-            saw_ours (ap (λ z. z.seen) (some-injective v w.1
-                (sym at ∙ ((λ i. get_elem? views (sym here i)) ∙ w.2))) ∙ w.4)))
+          seat,
+          both,
+          both_at,
+          firsts.4,
+          saw_ours (ap (λ z. z.seen) (some-injective v w.1
+              (sym at ∙ ((λ i. get_elem? views (sym here i)) ∙ w.2))) ∙ w.4),
+        ))
         (λ away. dite (ℕ_discrete w.0 other)
-            (λ here. (
-                seat,
-                both,
-                both_at,
-                firsts.4,
-                saw_theirs (ap (λ z. z.seen) (some-injective u w.1
-                    (sym its ∙ ((λ i. get_elem? views (sym here i)) ∙ w.2))) ∙ w.4)))
-            (λ apart. (
-                w.0,
-                w.1,
-                set_else halfway other w.0 spent_view apart
-                    ∙ (set_else views seat w.0 both away ∙ w.2),
-                w.3,
-                w.4)));
+        (λ here. (
+          seat,
+          both,
+          both_at,
+          firsts.4,
+          saw_theirs (ap (λ z. z.seen) (some-injective u w.1
+              (sym its ∙ ((λ i. get_elem? views (sym here i)) ∙ w.2))) ∙ w.4),
+        ))
+        (λ apart. (
+          w.0,
+          w.1,
+          set_else halfway other w.0 spent_view apart
+              ∙ (set_else views seat w.0 both away ∙ w.2),
+          w.3,
+          w.4,
+        )));
     outs = outs_now.0;
   }
 
@@ -249,7 +254,7 @@ module _ {V : Type 0} (stands : V → ℕ → List Entry → Type 0) where
       → IsTakenGate stands history s.words s.homes s.views → get_elem? s.views seat ≡ some v
       → other ≢ seat → get_elem? s.views other ≡ some u
       → IsTakenGate stands history s.words s.homes
-          (set (set s.views seat (after_join v u)) other spent_view)
+      (set (set s.views seat (after_join v u)) other spent_view)
   taken_kept s history seat other v u off off' h at two its =
       let halfway : List View = set s.views seat (after_join v u) in record {
         word = h.word;
@@ -264,12 +269,12 @@ module _ {V : Type 0} (stands : V → ℕ → List Entry → Type 0) where
         saw_all = h.saw_all;
         alone = λ j x e it. ⊎_elim
             (λ (t : (j ≡ other) × (spent_view ≡ x)).
-                absurd (true≢false (sym it ∙ ap (λ z. z.has_turn) (sym t.1))))
+            absurd (true≢false (sym it ∙ ap (λ z. z.has_turn) (sym t.1))))
             (λ (t : (j ≢ other) × (get_elem? halfway j ≡ some x)). ⊎_elim
-                (λ (a : (j ≡ seat) × (after_join v u ≡ x)). absurd
-                    (true≢false (sym it ∙ (ap (λ z. z.has_turn) (sym a.1) ∙ off))))
-                (λ (a : (j ≢ seat) × (get_elem? s.views j ≡ some x)). h.alone j x a.1 it)
-                (at_set s.views seat j (after_join v u) x t.1))
+            (λ (a : (j ≡ seat) × (after_join v u ≡ x)). absurd
+            (true≢false (sym it ∙ (ap (λ z. z.has_turn) (sym a.1) ∙ off))))
+            (λ (a : (j ≢ seat) × (get_elem? s.views j ≡ some x)). h.alone j x a.1 it)
+            (at_set s.views seat j (after_join v u) x t.1))
             (at_set halfway other j spent_view x e);
       }
     where
@@ -277,7 +282,7 @@ module _ {V : Type 0} (stands : V → ℕ → List Entry → Type 0) where
           → get_elem? s.views k ≡ some x → ⊥
       on k x off same e = true≢false (sym h.has_it ∙ (ap (λ z. z.has_turn)
           (some-injective h.its_view x
-              (sym h.sits ∙ ((λ i. get_elem? s.views (same i)) ∙ e))) ∙ off))
+          (sym h.sits ∙ ((λ i. get_elem? s.views (same i)) ∙ e))) ∙ off))
 
   pub join_goes : (seat : ℕ) (v : View) (other : ℕ) (u : View) → v.is_first ≡ true
       → v.has_turn ≡ false → u.is_first ≡ false → u.is_spent ≡ false → u.has_turn ≡ false
@@ -286,9 +291,9 @@ module _ {V : Type 0} (stands : V → ℕ → List Entry → Type 0) where
       let both : View = after_join v u in
       let vs : List View = set s.views seat both in
       let its : get_elem? s.views other ≡ some u = ⊎_elim
-          (λ (t : (other ≡ seat) × (both ≡ u)). absurd (two t.0))
-          (λ (t : (other ≢ seat) × (get_elem? s.views other ≡ some u)). t.1)
-          (at_set s.views seat other both u there) in record {
+      (λ (t : (other ≡ seat) × (both ≡ u)). absurd (two t.0))
+      (λ (t : (other ≢ seat) × (get_elem? s.views other ≡ some u)). t.1)
+      (at_set s.views seat other both u there) in record {
         history = g.history;
         made = g.made;
         out = g.out - 1;
@@ -297,10 +302,10 @@ module _ {V : Type 0} (stands : V → ℕ → List Entry → Type 0) where
             first two its live not_first;
         turn = ⊎_elim
             (λ (f : IsFreeGate stands g.history s.words s.homes s.views). inl
-                (free_stays stands g.history s.words s.homes vs other u spent_view
-                    (free_stays stands g.history s.words s.homes s.views seat v both f at refl)
-                    there (sym off')))
+            (free_stays stands g.history s.words s.homes vs other u spent_view
+            (free_stays stands g.history s.words s.homes s.views seat v both f at refl)
+            there (sym off')))
             (λ (h : IsTakenGate stands g.history s.words s.homes s.views). inr
-                (taken_kept s g.history seat other v u off off' h at two its))
+            (taken_kept s g.history seat other v u off off' h at two its))
             g.turn;
       }

@@ -1,5 +1,5 @@
 -- Lists of entries and of views.
-use Rattle.std.proofs.Common.{◌≡◌, ◌≢◌, ◌⊎◌, ℕ, zero, suc, ◌+◌, ◌<◌, ◌≤◌, ◌==◌, true, false, cond, List, [], ◌∷◌, ◌++◌, length, set, refl, sym, ap, ◌∙◌, subst, inl, inr, ⊎_elim, arith, eq-eqb, ne_eqb, get_or}
+use Rattle.std.proofs.Common.{◌≡◌, ◌≢◌, ◌⊎◌, ℕ, zero, suc, ◌+◌, ◌<◌, ◌≤◌, ◌==◌, cond, List, [], ◌∷◌, ◌++◌, length, set, refl, sym, ap, ◌∙◌, subst, inl, inr, ⊎_elim, arith, eq-eqb, ne_eqb}
 use Rattle.std.specs.List.{All}
 use Rattle.std.proofs.lemmas.List.Elements.{All-head, All-tail, filter-append}
 use mathlib.Core.Option.{some, some-injective, some-ne-none}
@@ -21,7 +21,7 @@ none_known made (e ∷ es) below =
     let first : e.caller < made = All-head (λ (x : Entry). x.caller < made) e es below in
     let rest = All-tail (λ (x : Entry). x.caller < made) e es below in
     subst (λ b. cond b (e ∷ entries_by made es) (entries_by made es) ≡ [])
-        (sym (ne_eqb e.caller made (λ same. omega arith))) (none_known made es rest)
+    (sym (ne_eqb e.caller made (λ same. omega arith))) (none_known made es rest)
 
 -- entries that are all by one caller
 pub record By (caller : ℕ) (entries : List Entry) : Type 0 where

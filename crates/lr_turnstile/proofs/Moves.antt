@@ -1,6 +1,6 @@
 -- What the table asks of each kind of step of one pass: that it keeps the rule, and tells what it
 -- says.
-use Rattle.std.proofs.Common.{◌≡◌, ℕ, ◌+◌, ◌-◌, ◌*◌, ◌/◌, ◌%◌, ◌^◌, ◌<◌, ◌==◌, true, false, List, [], ◌∷◌, ◌++◌, length, set, refl, sym, ap, ◌∙◌, subst, inl, inr, ⊎_elim, arith, eq-eqb, ne_eqb, length-append, append_assoc}
+use Rattle.std.proofs.Common.{◌≡◌, ℕ, ◌+◌, ◌-◌, ◌*◌, ◌/◌, ◌%◌, ◌^◌, ◌<◌, ◌==◌, true, false, List, [], ◌∷◌, ◌++◌, length, set, refl, sym, ap, ◌∙◌, subst, inl, inr, ⊎_elim, arith, eq-eqb, ne_eqb, length-append}
 use Rattle.std.specs.Prelude.{slice_index}
 use Rattle.std.proofs.lemmas.Bool.{true≢false}
 use mathlib.Core.Logic.{dite}
@@ -12,7 +12,7 @@ use Rattle.atomic_table.specs.Table.{State, Me, step, keeps, takes, gives, stepp
 use Rattle.lr_model.specs.declared.entry.Entry.{Entry}
 use Rattle.lr_turnstile.specs.declared.home.Home.{Home}
 use Rattle.lr_turnstile.specs.declared.view.View.{View}
-use Rattle.lr_turnstile.specs.Views.{entries_by, Grew, HasOwn, IsAlone, IsSame, looked, took, left_with, left_same}
+use Rattle.lr_turnstile.specs.Views.{entries_by, Grew, IsAlone, IsSame, looked, took, left_with, left_same}
 use Rattle.lr_turnstile.specs.Rule.{IsGate, IsFreeGate, IsTakenGate, occupied}
 use Rattle.lr_turnstile.specs.Steps.{HasLooked, LookTells, TakeTells, LeaveWithTells, LeaveSameTells}
 use Rattle.lr_turnstile.proofs.Lists.{by_one, entries_by-append}
@@ -103,7 +103,7 @@ module _ {V : Type 0} (stands : V → ℕ → List Entry → Type 0) where
   free_if s g even = ⊎_elim
       (λ (f : IsFreeIn s g.history). f)
       (λ (h : IsTakenIn s g.history).
-          let e = word_is s.words (2 * length g.history + 1) h.word in absurd (omega arith))
+      let e = word_is s.words (2 * length g.history + 1) h.word in absurd (omega arith))
       g.turn
 
   -- a pass with the turn shows that it is taken
@@ -125,7 +125,7 @@ module _ {V : Type 0} (stands : V → ℕ → List Entry → Type 0) where
         ⊎_elim
             (λ (f : IsFreeIn s g.history). word_is s.words (2 * length g.history) f.word)
             (λ (h : IsTakenIn s g.history). absurd (true≢false (sym h.has_it
-                ∙ (ap (λ z. z.has_turn) (one h.holder h.its_view h.sits h.alive) ∙ off))))
+            ∙ (ap (λ z. z.has_turn) (one h.holder h.its_view h.sits h.alive) ∙ off))))
             g.turn,
         ap (λ z. z.seen) (sym is) ∙ front.4,
       )
@@ -146,16 +146,16 @@ module _ {V : Type 0} (stands : V → ℕ → List Entry → Type 0) where
         mine;
     turn = ⊎_elim
         (λ (f : IsFreeIn s g.history).
-            let t = free_stays stands g.history s.words s.homes s.views seat v w f at turn in
-            inl (free_again stands g.history s.words
-                (set s.words 0 (slice_index s.words 0)) s.homes s.homes (set s.views seat w) t
-                (unmoved s.words (2 * length g.history) f.word) t.home))
+        let t = free_stays stands g.history s.words s.homes s.views seat v w f at turn in
+        inl (free_again stands g.history s.words
+        (set s.words 0 (slice_index s.words 0)) s.homes s.homes (set s.views seat w) t
+        (unmoved s.words (2 * length g.history) f.word) t.home))
         (λ (h : IsTakenIn s g.history).
-            let t = taken_stays stands g.history s.words s.homes s.views seat v w h at turn
-                same.spent (λ _. saw) in
-            inr (taken_again stands g.history s.words
-                (set s.words 0 (slice_index s.words 0)) s.homes s.homes (set s.views seat w) t
-                (unmoved s.words (2 * length g.history + 1) h.word) t.home))
+        let t = taken_stays stands g.history s.words s.homes s.views seat v w h at turn
+        same.spent (λ _. saw) in
+        inr (taken_again stands g.history s.words
+        (set s.words 0 (slice_index s.words 0)) s.homes s.homes (set s.views seat w) t
+        (unmoved s.words (2 * length g.history + 1) h.word) t.home))
         g.turn;
   }
 
@@ -187,9 +187,9 @@ module _ {V : Type 0} (stands : V → ℕ → List Entry → Type 0) where
       → Rule (stepped s 0 new seat slots w (takes 0 (occupied f.value)))
   turned s g seat v w slots f new at live same has saw mine is =
       let t = free_taken stands g.history s.words s.homes s.views seat v w f at has
-          (same.spent ∙ live) saw in
+      (same.spent ∙ live) saw in
       let word : new ≡ 2 * length g.history + 1 =
-          is ∙ ap (λ n. n + 1) (word_is s.words (2 * length g.history) f.word) in
+      is ∙ ap (λ n. n + 1) (word_is s.words (2 * length g.history) f.word) in
       record {
         history = g.history;
         made = g.made;
@@ -206,52 +206,52 @@ module _ {V : Type 0} (stands : V → ℕ → List Entry → Type 0) where
   pub take_goes : (slots seat : ℕ) (me : Me (Home V) View) (old new : ℕ)
       → me.0.is_spent ≡ false → old % 2 ≡ 0 → new ≡ old + 1
       → Allows Rule slots seat me 0 (λ n. either (n == old) new n)
-          (TakeTells stands (step slots 0 old new none) me)
+      (TakeTells stands (step slots 0 old new none) me)
   take_goes slots seat me old new live even up s g wide at small =
       let n : ℕ = slice_index s.words 0 in
       let v : View = me.0 in
       let alone : IsAlone v → v.has_turn ≡ false → n ≡ 2 * length v.seen =
-          λ a off. let t = alone_free s g seat v at a off in
-          t.0 ∙ ap (λ (l : List Entry). 2 * length l) (sym t.1) in
+      λ a off. let t = alone_free s g seat v at a off in
+      t.0 ∙ ap (λ (l : List Entry). 2 * length l) (sym t.1) in
       dite (ℕ_discrete n old)
       (λ hit.
-          let f = free_if s g (ap (λ k. k % 2) hit ∙ even) in
-          let w : View = took v g.history n in (
-            w,
-            takes 0 (occupied f.value),
-            subst (λ hs. get_elem? hs 0 ≡ some (some (occupied f.value))) (sym f.home) refl,
-            subst (λ b. Rule (stepped s 0 (either b new n) seat me.1 w
-                (takes 0 (occupied f.value)))) (sym (eq-eqb n old hit))
-                (turned s g seat v w me.1 f new at live (same_took v g.history n) refl refl refl
-                    (up ∙ ap (λ k. k + 1) (sym hit))),
-            record {
-              taken = λ _. record {
-                value = f.value;
-                slot = refl;
-                view = refl;
-                grew = grew s g seat v at live;
-                even = word_is s.words (2 * length g.history) f.word;
-                it_stands = f.it_stands;
-                own = owns s g seat v at live;
-              };
-              missed = λ miss. absurd (miss hit);
-              alone = alone;
-            },
-          ))
+      let f = free_if s g (ap (λ k. k % 2) hit ∙ even) in
+      let w : View = took v g.history n in (
+        w,
+        takes 0 (occupied f.value),
+        subst (λ hs. get_elem? hs 0 ≡ some (some (occupied f.value))) (sym f.home) refl,
+        subst (λ b. Rule (stepped s 0 (either b new n) seat me.1 w
+            (takes 0 (occupied f.value)))) (sym (eq-eqb n old hit))
+            (turned s g seat v w me.1 f new at live (same_took v g.history n) refl refl refl
+            (up ∙ ap (λ k. k + 1) (sym hit))),
+        record {
+          taken = λ _. record {
+            value = f.value;
+            slot = refl;
+            view = refl;
+            grew = grew s g seat v at live;
+            even = word_is s.words (2 * length g.history) f.word;
+            it_stands = f.it_stands;
+            own = owns s g seat v at live;
+          };
+          missed = λ miss. absurd (miss hit);
+          alone = alone;
+        },
+      ))
       (λ miss.
-          let w : View = looked v g.history n in (
-            w,
-            keeps,
-            tt,
-            subst (λ b. Rule (stepped s 0 (either b new n) seat me.1 w keeps))
-                (sym (ne_eqb n old miss))
-                (glanced s g seat v w me.1 at live (same_looked v g.history n) refl refl refl),
-            record {
-              taken = λ hit. absurd (miss hit);
-              missed = λ _. (refl, has_looked s g seat v at live);
-              alone = alone;
-            },
-          ))
+      let w : View = looked v g.history n in (
+        w,
+        keeps,
+        tt,
+        subst (λ b. Rule (stepped s 0 (either b new n) seat me.1 w keeps))
+            (sym (ne_eqb n old miss))
+            (glanced s g seat v w me.1 at live (same_looked v g.history n) refl refl refl),
+        record {
+          taken = λ hit. absurd (miss hit);
+          missed = λ _. (refl, has_looked s g seat v at live);
+          alone = alone;
+        },
+      ))
 
   -- The addition and the subtraction.
 
@@ -259,23 +259,23 @@ module _ {V : Type 0} (stands : V → ℕ → List Entry → Type 0) where
       → v.has_turn ≡ true → e.caller ≡ v.caller → stands x 0 (v.seen ++ e ∷ [])
       → length v.seen < 2 ^ 62
       → Allows Rule slots seat (v, (0, occupied x) ∷ []) 0 (λ n. (n + 1) % 2 ^ 64)
-          (LeaveWithTells e (step slots 0 1 0 none) (v, (0, occupied x) ∷ []))
+      (LeaveWithTells e (step slots 0 1 0 none) (v, (0, occupied x) ∷ []))
   leave_with_goes slots seat v e x live has its it room s g wide at small =
       let h = taken_if s g seat v at has in
       let all : v.seen ≡ g.history =
-          holder_saw_all stands g.history s.words s.homes s.views seat v h at has in
+      holder_saw_all stands g.history s.words s.homes s.views seat v h at has in
       let longer : List Entry = g.history ++ e ∷ [] in
       let w : View = left_with e v in
       let own : entries_by v.caller (v.seen ++ e ∷ []) ≡ v.mine ++ e ∷ [] =
-          entries_by-append v.caller v.seen (e ∷ [])
-          ∙ (λ i. (ap (λ l. entries_by v.caller l) all ∙ owns s g seat v at live) i
-              ++ (by_one v.caller e its).own i) in
+      entries_by-append v.caller v.seen (e ∷ [])
+      ∙ (λ i. (ap (λ l. entries_by v.caller l) all ∙ owns s g seat v at live) i
+      ++ (by_one v.caller e its).own i) in
       let it' : stands x 0 longer = subst (λ l. stands x 0 (l ++ e ∷ [])) all it in
       let n : ℕ = slice_index s.words 0 in
       let short : length g.history < 2 ^ 62 =
-          subst (λ (l : List Entry). length l < 2 ^ 62) all room in
+      subst (λ (l : List Entry). length l < 2 ^ 62) all room in
       let is : n ≡ 2 * length g.history + 1 =
-          word_is s.words (2 * length g.history + 1) h.word in
+      word_is s.words (2 * length g.history + 1) h.word in
       let long : length longer ≡ length g.history + 1 = length-append g.history (e ∷ []) in
       let word : (n + 1) % 2 ^ 64 ≡ 2 * length longer = omega arith in (
         w,
@@ -293,9 +293,9 @@ module _ {V : Type 0} (stands : V → ℕ → List Entry → Type 0) where
               (set s.words 0 ((n + 1) % 2 ^ 64)) (set s.homes 0 (some (occupied x))) h at has refl
               it'
               (subst (λ ws. set ws 0 ((n + 1) % 2 ^ 64) ≡ (n + 1) % 2 ^ 64 ∷ []) (sym h.word) refl
-                  ∙ ap (λ k. k ∷ []) word)
+              ∙ ap (λ k. k ∷ []) word)
               (subst (λ hs. set hs 0 (some (occupied x)) ≡ some (occupied x) ∷ []) (sym h.home)
-                  refl));
+              refl));
         },
         record { slots = refl; view = refl; own = own },
       )
@@ -303,16 +303,16 @@ module _ {V : Type 0} (stands : V → ℕ → List Entry → Type 0) where
   leave_same_goes : (slots seat : ℕ) (v : View) (x : V) → v.is_spent ≡ false
       → v.has_turn ≡ true → stands x 0 v.seen
       → Allows Rule slots seat (v, (0, occupied x) ∷ []) 0 (λ n. (n + (2 ^ 64 - 1)) % 2 ^ 64)
-          (LeaveSameTells (step slots 0 1 0 none) (v, (0, occupied x) ∷ []))
+      (LeaveSameTells (step slots 0 1 0 none) (v, (0, occupied x) ∷ []))
   leave_same_goes slots seat v x live has it s g wide at small =
       let h = taken_if s g seat v at has in
       let all : v.seen ≡ g.history =
-          holder_saw_all stands g.history s.words s.homes s.views seat v h at has in
+      holder_saw_all stands g.history s.words s.homes s.views seat v h at has in
       let w : View = left_same v in
       let it' : stands x 0 g.history = subst (λ l. stands x 0 l) all it in
       let n : ℕ = slice_index s.words 0 in
       let is : n ≡ 2 * length g.history + 1 =
-          word_is s.words (2 * length g.history + 1) h.word in
+      word_is s.words (2 * length g.history + 1) h.word in
       let word : (n + (2 ^ 64 - 1)) % 2 ^ 64 ≡ 2 * length g.history = omega arith in (
         w,
         gives,
@@ -328,9 +328,9 @@ module _ {V : Type 0} (stands : V → ℕ → List Entry → Type 0) where
               (set s.words 0 ((n + (2 ^ 64 - 1)) % 2 ^ 64)) (set s.homes 0 (some (occupied x))) h at
               has refl it'
               (subst (λ ws. set ws 0 ((n + (2 ^ 64 - 1)) % 2 ^ 64)
-                  ≡ (n + (2 ^ 64 - 1)) % 2 ^ 64 ∷ []) (sym h.word) refl ∙ ap (λ k. k ∷ []) word)
+              ≡ (n + (2 ^ 64 - 1)) % 2 ^ 64 ∷ []) (sym h.word) refl ∙ ap (λ k. k ∷ []) word)
               (subst (λ hs. set hs 0 (some (occupied x)) ≡ some (occupied x) ∷ []) (sym h.home)
-                  refl));
+              refl));
         },
         record { slots = refl; view = refl },
       )
@@ -341,21 +341,21 @@ module _ {V : Type 0} (stands : V → ℕ → List Entry → Type 0) where
       → me.1 ≡ (0, occupied x) ∷ [] → me.0.is_spent ≡ false → me.0.has_turn ≡ true
       → e.caller ≡ me.0.caller → stands x 0 (me.0.seen ++ e ∷ []) → length me.0.seen < 2 ^ 62
       → Allows Rule slots seat me 0 (λ n. (n + 1) % 2 ^ 64)
-          (LeaveWithTells e (step slots 0 1 0 none) me)
+      (LeaveWithTells e (step slots 0 1 0 none) me)
   leave_with_goes_at slots seat me e x out live has its it room =
       subst (λ (c : List (ℕ × Home V)). Allows Rule slots seat (me.0, c) 0
-          (λ n. (n + 1) % 2 ^ 64) (LeaveWithTells e (step slots 0 1 0 none) (me.0, c)))
-          (sym out) (leave_with_goes slots seat me.0 e x live has its it room)
+      (λ n. (n + 1) % 2 ^ 64) (LeaveWithTells e (step slots 0 1 0 none) (me.0, c)))
+      (sym out) (leave_with_goes slots seat me.0 e x live has its it room)
 
-  pub leave_same_goes_at : (slots seat : ℕ) (me : Me (Home V) View) (x : V)
-      → me.1 ≡ (0, occupied x) ∷ [] → me.0.is_spent ≡ false → me.0.has_turn ≡ true
-      → stands x 0 me.0.seen
+  pub leave_same_goes_at : (slots seat : ℕ) (me : Me (Home V) View) (v : View) (x : V)
+      → me ≡ (v, (0, occupied x) ∷ []) → v.is_spent ≡ false → v.has_turn ≡ true
+      → stands x 0 v.seen
       → Allows Rule slots seat me 0 (λ n. (n + (2 ^ 64 - 1)) % 2 ^ 64)
-          (LeaveSameTells (step slots 0 1 0 none) me)
-  leave_same_goes_at slots seat me x out live has it =
-      subst (λ (c : List (ℕ × Home V)). Allows Rule slots seat (me.0, c) 0
-          (λ n. (n + (2 ^ 64 - 1)) % 2 ^ 64) (LeaveSameTells (step slots 0 1 0 none) (me.0, c)))
-          (sym out) (leave_same_goes slots seat me.0 x live has it)
+      (LeaveSameTells (step slots 0 1 0 none) me)
+  leave_same_goes_at slots seat me v x is live has it =
+      subst (λ (m : Me (Home V) View). Allows Rule slots seat m 0
+      (λ n. (n + (2 ^ 64 - 1)) % 2 ^ 64) (LeaveSameTells (step slots 0 1 0 none) m))
+      (sym is) (leave_same_goes slots seat v x live has it)
 
 -- the slot that was taken last, and what is behind it
 pub top : {S : Type 0} (xs : List (ℕ × S)) (a : ℕ × S) (ys : List (ℕ × S)) → xs ≡ a ∷ ys

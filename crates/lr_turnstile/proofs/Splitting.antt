@@ -1,5 +1,5 @@
 -- Splitting a pass off keeps the rule.
-use Rattle.std.proofs.Common.{◌≡◌, ◌≢◌, ◌⊎◌, ℕ, ◌+◌, ◌-◌, ◌<◌, true, false, List, [], ◌∷◌, ◌++◌, length, set, refl, sym, ap, ◌∙◌, subst, inl, inr, ⊎_elim, arith}
+use Rattle.std.proofs.Common.{◌≡◌, ◌≢◌, ◌⊎◌, ℕ, ◌+◌, ◌<◌, true, false, List, [], ◌∷◌, ◌++◌, length, set, refl, sym, ap, ◌∙◌, subst, inl, inr, ⊎_elim, arith}
 use Rattle.std.proofs.lemmas.Bool.{true≢false}
 use mathlib.Core.Logic.{dite}
 use mathlib.Core.Option.{some, some-injective}
@@ -10,7 +10,7 @@ use Rattle.atomic_table.proofs.Lists.{at_set, set_else, at_longer}
 use Rattle.lr_model.specs.declared.entry.Entry.{Entry}
 use Rattle.lr_turnstile.specs.declared.view.View.{View}
 use Rattle.lr_turnstile.specs.Views.{entries_by, after_split, split_off}
-use Rattle.lr_turnstile.specs.Rule.{IsGate, IsFreeGate, IsTakenGate, total, outside, Knows, Roster}
+use Rattle.lr_turnstile.specs.Rule.{IsGate, IsFreeGate, IsTakenGate, outside, Knows, Roster}
 use Rattle.lr_turnstile.proofs.Lists.{entries_by-append, none_known, nil_left, nil_right, at_end, at_here, total-set, total-append}
 use Rattle.lr_turnstile.proofs.Turning.{free_stays, taken_stays, free_more, taken_more}
 
@@ -51,10 +51,10 @@ module _ (history : List Entry) (made out : ℕ) (joined : List (ℕ × List Ent
       let h = (r.each seat v at).fits firsts.4 in
       let e = firsts.1 in
       let none : entries_by v.made history ≡ [] =
-          subst (λ m. entries_by m history ≡ []) (sym e) (none_known made history r.known) in
+      subst (λ m. entries_by m history ≡ []) (sym e) (none_known made history r.known) in
       let parts : entries_by v.made v.seen ++ entries_by v.made h.later ≡ [] =
-          sym (entries_by-append v.made v.seen h.later)
-          ∙ (ap (λ l. entries_by v.made l) (sym h.begins) ∙ none) in
+      sym (entries_by-append v.made v.seen h.later)
+      ∙ (ap (λ l. entries_by v.made l) (sym h.begins) ∙ none) in
       let theirs : List Entry = entries_by v.made h.later in
       let ours : List Entry = entries_by v.made v.seen in record {
         fits = λ _. record {
@@ -79,10 +79,10 @@ module _ (history : List Entry) (made out : ℕ) (joined : List (ℕ × List Ent
   each_after : (j : ℕ) (u : View) → get_elem? after j ≡ some u → KnowsNow j u
   each_after j u e = ⊎_elim
       (λ (t : (j < length changed) × (get_elem? changed j ≡ some u)). ⊎_elim
-          (λ (a : (j ≡ seat) × (this ≡ u)). subst (λ (z : ℕ × View). KnowsNow z.0 z.1)
-              (λ i. (sym a.0 i, a.1 i)) knows_this)
-          (λ (a : (j ≢ seat) × (get_elem? views j ≡ some u)). knows_old j u a.0 a.1)
-          (at_set views seat j this u t.1))
+      (λ (a : (j ≡ seat) × (this ≡ u)). subst (λ (z : ℕ × View). KnowsNow z.0 z.1)
+      (λ i. (sym a.0 i, a.1 i)) knows_this)
+      (λ (a : (j ≢ seat) × (get_elem? views j ≡ some u)). knows_old j u a.0 a.1)
+      (at_set views seat j this u t.1))
       (λ (t : (j ≡ length changed) × (other ≡ u)). subst (KnowsNow j) t.1 (knows_other j))
       (at_end changed other u j e)
 
@@ -97,15 +97,16 @@ module _ (history : List Entry) (made out : ℕ) (joined : List (ℕ × List Ent
   was : (j : ℕ) (u : View) → get_elem? after j ≡ some u → IsOld j u ⊎ IsNew j u
   was j u e = ⊎_elim
       (λ (t : (j < length changed) × (get_elem? changed j ≡ some u)). ⊎_elim
-          (λ (a : (j ≡ seat) × (this ≡ u)). inl (
-              v,
-              subst (λ z. get_elem? views z ≡ some v) (sym a.0) at,
-              ap (λ z. z.caller) (sym a.1),
-              ap (λ z. z.is_spent) (sym a.1)))
-          (λ (a : (j ≢ seat) × (get_elem? views j ≡ some u)). inl (u, a.1, refl, refl))
-          (at_set views seat j this u t.1))
+      (λ (a : (j ≡ seat) × (this ≡ u)). inl (
+        v,
+        subst (λ z. get_elem? views z ≡ some v) (sym a.0) at,
+        ap (λ z. z.caller) (sym a.1),
+        ap (λ z. z.is_spent) (sym a.1),
+      ))
+      (λ (a : (j ≢ seat) × (get_elem? views j ≡ some u)). inl (u, a.1, refl, refl))
+      (at_set views seat j this u t.1))
       (λ (t : (j ≡ length changed) × (other ≡ u)).
-          inr (t.0, ap (λ z. z.caller) (sym t.1) ∙ firsts.1))
+      inr (t.0, ap (λ z. z.caller) (sym t.1) ∙ firsts.1))
       (at_end changed other u j e)
 
   below : (j : ℕ) (u : View) → IsOld j u → u.is_spent ≡ false → u.caller < made
@@ -117,36 +118,37 @@ module _ (history : List Entry) (made out : ℕ) (joined : List (ℕ × List Ent
     each = each_after;
     apart = λ i j u x e e' live live' same. ⊎_elim
         (λ (a : IsOld i u). ⊎_elim
-            (λ (b : IsOld j x). r.apart i j a.0 b.0 a.1 b.1 (sym a.3 ∙ live) (sym b.3 ∙ live')
-                (sym a.2 ∙ (same ∙ b.2)))
-            (λ (b : IsNew j x).
-                let l = below i u a live in let c = b.1 in absurd (omega arith))
-            (was j x e'))
+        (λ (b : IsOld j x). r.apart i j a.0 b.0 a.1 b.1 (sym a.3 ∙ live) (sym b.3 ∙ live')
+        (sym a.2 ∙ (same ∙ b.2)))
+        (λ (b : IsNew j x).
+        let l = below i u a live in let c = b.1 in absurd (omega arith))
+        (was j x e'))
         (λ (a : IsNew i u). ⊎_elim
-            (λ (b : IsOld j x).
-                let l = below j x b live' in let c = a.1 in absurd (omega arith))
-            (λ (b : IsNew j x). a.0 ∙ sym b.0)
-            (was j x e'))
+        (λ (b : IsOld j x).
+        let l = below j x b live' in let c = a.1 in absurd (omega arith))
+        (λ (b : IsNew j x). a.0 ∙ sym b.0)
+        (was j x e'))
         (was i u e);
     known = λ k d within. let h = r.known k d within in omega arith;
     ended = λ k d within. let h = r.ended k d within in let l = h.1 in (h.0, omega arith);
     counted = let c = r.counted in omega arith;
     front = let w = r.front in dite (ℕ_discrete w.0 seat)
         (λ here.
-            let is : w.1 ≡ v = some-injective w.1 v
-                (sym w.2 ∙ ((λ i. get_elem? views (here i)) ∙ at)) in (
-              seat,
-              this,
-              at_longer changed (other ∷ []) seat this (at_here views seat v this at),
-              firsts.4,
-              ap (λ z. z.seen) (sym is) ∙ w.4,
-            ))
+        let is : w.1 ≡ v = some-injective w.1 v
+        (sym w.2 ∙ ((λ i. get_elem? views (here i)) ∙ at)) in (
+          seat,
+          this,
+          at_longer changed (other ∷ []) seat this (at_here views seat v this at),
+          firsts.4,
+          ap (λ z. z.seen) (sym is) ∙ w.4,
+        ))
         (λ away. (
-            w.0,
-            w.1,
-            at_longer changed (other ∷ []) w.0 w.1 (set_else views seat w.0 this away ∙ w.2),
-            w.3,
-            w.4));
+          w.0,
+          w.1,
+          at_longer changed (other ∷ []) w.0 w.1 (set_else views seat w.0 this away ∙ w.2),
+          w.3,
+          w.4,
+        ));
     outs =
         let a = total-append outside changed other in
         let b = total-set outside views seat v this at in
@@ -165,12 +167,12 @@ module _ {V : Type 0} (stands : V → ℕ → List Entry → Type 0) where
         roster = roster_split g.history g.made g.out g.joined s.views seat v g.roster at first;
         turn = ⊎_elim
             (λ (f : IsFreeGate stands g.history s.words s.homes s.views). inl
-                (free_more stands g.history s.words s.homes vs (split_off v)
-                    (free_stays stands g.history s.words s.homes s.views seat v (after_split v) f
-                        at refl) refl))
+            (free_more stands g.history s.words s.homes vs (split_off v)
+            (free_stays stands g.history s.words s.homes s.views seat v (after_split v) f
+            at refl) refl))
             (λ (h : IsTakenGate stands g.history s.words s.homes s.views). inr
-                (taken_more stands g.history s.words s.homes vs (split_off v)
-                    (taken_stays stands g.history s.words s.homes s.views seat v (after_split v) h
-                        at refl refl (λ all. all)) refl))
+            (taken_more stands g.history s.words s.homes vs (split_off v)
+            (taken_stays stands g.history s.words s.homes s.views seat v (after_split v) h
+            at refl refl (λ all. all)) refl))
             g.turn;
       }

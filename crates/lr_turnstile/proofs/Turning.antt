@@ -61,7 +61,7 @@ module _ {V : Type 0} (stands : V → ℕ → List Entry → Type 0) (history : 
     it_stands = f.it_stands;
     nobody = λ j u e. ⊎_elim
         (λ (t : (j ≡ seat) × (w ≡ u)).
-            ap (λ z. z.has_turn) (sym t.1) ∙ (same ∙ f.nobody seat v at))
+        ap (λ z. z.has_turn) (sym t.1) ∙ (same ∙ f.nobody seat v at))
         (λ (t : (j ≢ seat) × (get_elem? views j ≡ some u)). f.nobody j u t.1)
         (at_set views seat j w u e);
   }
@@ -71,22 +71,22 @@ module _ {V : Type 0} (stands : V → ℕ → List Entry → Type 0) (history : 
       → (v.seen ≡ history → w.seen ≡ history) → IsTaken (set views seat w)
   taken_stays seat v w h at turn spent saw = dite (ℕ_discrete h.holder seat)
       (λ here.
-          let its : h.its_view ≡ v = some-injective h.its_view v
-              (sym h.sits ∙ ((λ i. get_elem? views (here i)) ∙ at)) in record {
-            word = h.word;
-            home = h.home;
-            holder = seat;
-            its_view = w;
-            sits = at_here views seat v w at;
-            has_it = turn ∙ (ap (λ z. z.has_turn) (sym its) ∙ h.has_it);
-            alive = spent ∙ (ap (λ z. z.is_spent) (sym its) ∙ h.alive);
-            saw_all = saw (ap (λ z. z.seen) (sym its) ∙ h.saw_all);
-            alone = λ j u e has. ⊎_elim
-                (λ (t : (j ≡ seat) × (w ≡ u)). t.0)
-                (λ (t : (j ≢ seat) × (get_elem? views j ≡ some u)).
-                    h.alone j u t.1 has ∙ here)
-                (at_set views seat j w u e);
-          })
+      let its : h.its_view ≡ v = some-injective h.its_view v
+      (sym h.sits ∙ ((λ i. get_elem? views (here i)) ∙ at)) in record {
+        word = h.word;
+        home = h.home;
+        holder = seat;
+        its_view = w;
+        sits = at_here views seat v w at;
+        has_it = turn ∙ (ap (λ z. z.has_turn) (sym its) ∙ h.has_it);
+        alive = spent ∙ (ap (λ z. z.is_spent) (sym its) ∙ h.alive);
+        saw_all = saw (ap (λ z. z.seen) (sym its) ∙ h.saw_all);
+        alone = λ j u e has. ⊎_elim
+            (λ (t : (j ≡ seat) × (w ≡ u)). t.0)
+            (λ (t : (j ≢ seat) × (get_elem? views j ≡ some u)).
+            h.alone j u t.1 has ∙ here)
+            (at_set views seat j w u e);
+      })
       (λ away. record {
         word = h.word;
         home = h.home;
@@ -98,7 +98,7 @@ module _ {V : Type 0} (stands : V → ℕ → List Entry → Type 0) (history : 
         saw_all = h.saw_all;
         alone = λ j u e has. ⊎_elim
             (λ (t : (j ≡ seat) × (w ≡ u)).
-                t.0 ∙ h.alone seat v at (sym turn ∙ (ap (λ z. z.has_turn) t.1 ∙ has)))
+            t.0 ∙ h.alone seat v at (sym turn ∙ (ap (λ z. z.has_turn) t.1 ∙ has)))
             (λ (t : (j ≢ seat) × (get_elem? views j ≡ some u)). h.alone j u t.1 has)
             (at_set views seat j w u e);
       })
@@ -120,7 +120,7 @@ module _ {V : Type 0} (stands : V → ℕ → List Entry → Type 0) (history : 
     alone = λ j u e it. ⊎_elim
         (λ (t : (j ≡ seat) × (w ≡ u)). t.0)
         (λ (t : (j ≢ seat) × (get_elem? views j ≡ some u)).
-            absurd (true≢false (sym it ∙ f.nobody j u t.1)))
+        absurd (true≢false (sym it ∙ f.nobody j u t.1)))
         (at_set views seat j w u e);
   }
 
@@ -132,7 +132,7 @@ module _ {V : Type 0} (stands : V → ℕ → List Entry → Type 0) (history : 
   holder_saw_all seat v h at has =
       let here = h.alone seat v at has in
       ap (λ z. z.seen) (some-injective v h.its_view
-          (sym at ∙ ((λ i. get_elem? views (here i)) ∙ h.sits))) ∙ h.saw_all
+      (sym at ∙ ((λ i. get_elem? views (here i)) ∙ h.sits))) ∙ h.saw_all
 
   pub taken_left : (seat : ℕ) (v w : View) (value : V) (now : List Entry) (words' : List ℕ)
       (homes' : List (maybe.Option (Home V))) → IsTaken views
@@ -147,7 +147,7 @@ module _ {V : Type 0} (stands : V → ℕ → List Entry → Type 0) (history : 
     nobody = λ j u e. ⊎_elim
         (λ (t : (j ≡ seat) × (w ≡ u)). ap (λ z. z.has_turn) (sym t.1) ∙ has)
         (λ (t : (j ≢ seat) × (get_elem? views j ≡ some u)).
-            off u.has_turn (λ on. t.0 (h.alone j u t.1 on ∙ sym (h.alone seat v at had))))
+        off u.has_turn (λ on. t.0 (h.alone j u t.1 on ∙ sym (h.alone seat v at had))))
         (at_set views seat j w u e);
   }
     where
@@ -182,6 +182,6 @@ module _ {V : Type 0} (stands : V → ℕ → List Entry → Type 0) (history : 
     alone = λ j x e it. ⊎_elim
         (λ (t : (j < length views) × (get_elem? views j ≡ some x)). h.alone j x t.1 it)
         (λ (t : (j ≡ length views) × (u ≡ x)).
-            absurd (true≢false (sym it ∙ (ap (λ z. z.has_turn) (sym t.1) ∙ has))))
+        absurd (true≢false (sym it ∙ (ap (λ z. z.has_turn) (sym t.1) ∙ has))))
         (at_end views u x j e);
   }

@@ -7,4 +7,4 @@ pub new-requires : goal.new-requires
 new-requires g c = opens g.V.Kept.stands c.args.value _ c.requires
     (c.push_reserved.ensures.items
     ∙ ap (λ homes. homes ++ occupied c.args.value ∷ [])
-        (c.reserve.ensures.items ∙ c.new-homes.ensures.items))
+    (c.reserve.ensures.items ∙ c.new-homes.ensures.items))

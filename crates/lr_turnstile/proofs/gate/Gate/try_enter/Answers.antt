@@ -1,9 +1,5 @@
-use Rattle.std.proofs.Common.{rules, ◌≡◌, ◌%◌, refl, sym, ap, ◌∙◌, arith, subst, false, ◌∷◌}
-use Rattle.atomic_table.specs.Table.{rest}
-use Rattle.lr_turnstile.specs.declared.view.View.{View}
-use Rattle.lr_turnstile.specs.Rule.{occupied, vacant}
-use Rattle.lr_turnstile.specs.Passes.{HasEntered}
-use Rattle.lr_turnstile.proofs.Looks.{came_second, got_in, same_value}
+use Rattle.std.proofs.Common.{rules, ◌≡◌, ◌%◌, refl, ap, ◌∙◌, arith, false}
+use Rattle.lr_turnstile.specs.Rule.{occupied}
 use Rattle.lr_turnstile.proofs.Moves.{look_goes, take_goes, top}
 use Rattle.lr_turnstile.proofs.gate.Gate.try_enter.Goals as goal
 
@@ -15,7 +11,7 @@ pub compare_exchange-found-requires : goal.compare_exchange-found-requires
 compare_exchange-found-requires g c =
     let l = c.load-word.ensures.2 in
     let live : c.load-word.new.seat.me.0.is_spent ≡ false =
-        ap (λ v. v.is_spent) l.looked.view ∙ c.args.pass.now.not_spent in
+    ap (λ v. v.is_spent) l.looked.view ∙ c.args.pass.now.not_spent in
     let even : c.load-word.result % 2 ≡ 0 = omega arith in
     (search rules, search rules, take_goes g.V.Kept.stands _ _ _ _ _ live even refl)
 
