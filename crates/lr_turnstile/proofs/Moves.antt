@@ -257,7 +257,7 @@ module _ {V : Type 0} (stands : V → ℕ → List Entry → Type 0) where
 
   leave_with_goes : (slots seat : ℕ) (v : View) (e : Entry) (x : V) → v.is_spent ≡ false
       → v.has_turn ≡ true → e.caller ≡ v.caller → stands x 0 (v.seen ++ e ∷ [])
-      → length v.seen < 2 ^ 62
+      → length v.seen + 1 < 2 ^ 63
       → Allows Rule slots seat (v, (0, occupied x) ∷ []) 0 (λ n. (n + 1) % 2 ^ 64)
       (LeaveWithTells e (step slots 0 1 0 none) (v, (0, occupied x) ∷ []))
   leave_with_goes slots seat v e x live has its it room s g wide at small =
@@ -272,8 +272,8 @@ module _ {V : Type 0} (stands : V → ℕ → List Entry → Type 0) where
       ++ (by_one v.caller e its).own i) in
       let it' : stands x 0 longer = subst (λ l. stands x 0 (l ++ e ∷ [])) all it in
       let n : ℕ = slice_index s.words 0 in
-      let short : length g.history < 2 ^ 62 =
-      subst (λ (l : List Entry). length l < 2 ^ 62) all room in
+      let short : length g.history + 1 < 2 ^ 63 =
+      subst (λ (l : List Entry). length l + 1 < 2 ^ 63) all room in
       let is : n ≡ 2 * length g.history + 1 =
       word_is s.words (2 * length g.history + 1) h.word in
       let long : length longer ≡ length g.history + 1 = length-append g.history (e ∷ []) in
@@ -339,7 +339,7 @@ module _ {V : Type 0} (stands : V → ℕ → List Entry → Type 0) where
 
   pub leave_with_goes_at : (slots seat : ℕ) (me : Me (Home V) View) (e : Entry) (x : V)
       → me.1 ≡ (0, occupied x) ∷ [] → me.0.is_spent ≡ false → me.0.has_turn ≡ true
-      → e.caller ≡ me.0.caller → stands x 0 (me.0.seen ++ e ∷ []) → length me.0.seen < 2 ^ 62
+      → e.caller ≡ me.0.caller → stands x 0 (me.0.seen ++ e ∷ []) → length me.0.seen + 1 < 2 ^ 63
       → Allows Rule slots seat me 0 (λ n. (n + 1) % 2 ^ 64)
       (LeaveWithTells e (step slots 0 1 0 none) me)
   leave_with_goes_at slots seat me e x out live has its it room =

@@ -32,6 +32,18 @@ module _ {V : Type 0} where
     pub gate : now.seat.table_id ≡ before.seat.table_id
     pub seat : now.seat.id ≡ before.seat.id
 
+  -- it is a gate's first pass, and doesn't have the turn
+  pub record IsFirst (gate : Gate V) (pass : Pass V) : Type 0 where
+    pub of : IsOf gate pass
+    pub free : HasNoTurn pass
+    pub first : (view pass).is_first ≡ true
+
+  -- it is another pass of a gate, and doesn't have the turn
+  pub record IsOther (gate : Gate V) (pass : Pass V) : Type 0 where
+    pub of : IsOf gate pass
+    pub free : HasNoTurn pass
+    pub other : (view pass).is_first ≡ false
+
 -- Why the gate wasn't entered.
 
 -- another pass has the turn: the one look gave an odd word

@@ -84,7 +84,7 @@ impl<V: Kept> Gate<V> {
         requires of { IsOf self.now pass.old }
         requires turn { HasTurn pass.old }
         requires caller { entry.caller ≡ (view pass.old).caller }
-        requires room { length (view pass.old).seen < 2 ^ 62 }
+        requires room { length (view pass.old).seen + 1 < 2 ^ 63 }
         requires value { V.stands value 0 ((view pass.old).seen ++ entry ∷ []) }
         ensures pass { IsSamePass pass.old pass.new }
         ensures free { HasNoTurn pass.new }
@@ -131,7 +131,7 @@ impl<V: Kept> Gate<V> {
         requires of { IsOf self.now pass.old }
         requires turn { (view pass.old).has_turn ≡ true }
         requires caller { E.entry.caller ≡ (view pass.old).caller }
-        requires room { length (view pass.old).seen < 2 ^ 62 }
+        requires room { length (view pass.old).seen + 1 < 2 ^ 63 }
         requires value { (value : V) × (pass.old.seat.me.1 ≡ (0, occupied value) ∷ [])
             × V.stands value 0 ((view pass.old).seen ++ E.entry ∷ []) }
         ensures pass { IsSamePass pass.old pass.new }
