@@ -1,0 +1,277 @@
+-- What the server's steps come to for the pass that made them.
+use Rattle.std.proofs.Common.{◌≡◌, ◌≢◌, ◌↔◌, ℕ, Bool, true, false, if◌then◌else◌, List, [], ◌∷◌, ◌++◌, Option, Some, None, refl, sym, ap, ◌∙◌, subst, eq-eqb, ◌==◌}
+use Rattle.std.specs.Prelude.{Result, Ok, Err, IfOk, OnOk, OnErr, IsSome, IsTrue}
+use Rattle.std.specs.Option.{ForSome}
+use Rattle.lr_commands.specs.declared.request.Request.{Request}
+use Rattle.lr_commands.specs.declared.request.Request.TheVariants as requests
+use Rattle.lr_history.specs.Limit.{is_refused}
+use Rattle.lr_names.specs.Channel.{ChannelOf}
+use Rattle.lr_names.specs.declared.post.Push.{Push}
+use Rattle.lr_model.specs.declared.entry.Act.{Act}
+use Rattle.lr_model.specs.declared.entry.Act.TheVariants as acts
+use Rattle.lr_model.specs.declared.entry.Entry.{Entry}
+use Rattle.lr_model.specs.Board.{Board, Connection, free_numbers, new_connection, with_connection}
+use Rattle.lr_model.specs.History.{State, EntryResult, Opens, result_of, after, state_at_start}
+use Rattle.lr_model.proofs.Histories.{after-push}
+use Rattle.lr_server.specs.declared.answered.Answered.{Answered}
+use Rattle.lr_server.specs.declared.fault.StepFault.{StepFault}
+use Rattle.lr_server.specs.declared.fault.StepFault.TheVariants.{TooManyConnections, HistoryFull, Dropped}
+use Rattle.lr_server.specs.Server.{ServerValue, state_of, connection_of, entry_of, act_of, is_only_subscribed, takes_some, entry_made, drain_made, result_made, result_in, post_in, reached_of, dropped_of, told_by, IsTold, IsHandedOut, fault_of, drain_fault, act_on_one}
+use Rattle.lr_turnstile.specs.declared.view.View.{View}
+use Rattle.lr_turnstile.specs.Views.{Grew, IsSame, looked, took}
+use Rattle.lr_service.specs.Closes.{MayClose, IsOwnClose}
+use Rattle.lr_service.specs.Served.{server_at, IsServed}
+use Rattle.lr_service.specs.Passes.{IsOwnConnection, CanClose}
+use Rattle.lr_service.specs.Calls.{entries_with, HadTurn, IsServedTo, IsOpened, IsDrained, IsClosed}
+use Rattle.lr_service.proofs.HadTurns.{made_by, opened_by, had_by, had_opened, had_turn_on, same_if}
+
+-- What is so of each entry that a step can make.
+
+module _ (P : Entry → Type 0) where
+  pub for_one : (entry : Entry) → P entry → ForSome (Some entry) P
+  for_one entry p x is = let same : entry ≡ x = cc in subst P same p
+
+  pub for_none : ForSome None P
+  for_none x is = absurd (cc)
+
+  for_if : (b : Bool) (entry : Entry) → P entry → ForSome (if b then None else Some entry) P
+  for_if true entry p = for_none
+  for_if false entry p = for_one entry p
+
+  for_then : (b : Bool) (entry : Entry) → P entry → ForSome (if b then Some entry else None) P
+  for_then true entry p = for_one entry p
+  for_then false entry p = for_none
+
+  for_made : {A E : Type 0} (result : Result A E) (made : Option Entry) → ForSome made P
+      → ForSome (made_by result made) P
+  for_made (Ok value) made p = p
+  for_made (Err fault) made p = for_none
+
+  pub for_found : (made found : Option Entry) → found ≡ made → ForSome made P → ForSome found P
+  for_found made found is p = subst (λ o. ForSome o P) (sym is) p
+
+  pub for_step : (result : Result Answered StepFault) (server : ServerValue)
+      (reading caller conn : ℕ) (act : Act) → P (entry_of server reading caller conn act)
+      → ForSome (made_by result (entry_made server reading caller conn act)) P
+  for_step result server reading caller conn act p =
+      for_made result (entry_made server reading caller conn act)
+          (for_if (is_only_subscribed act (connection_of server conn))
+              (entry_of server reading caller conn act) p)
+
+  pub for_drain : (result : Result (List Push) StepFault) (server : ServerValue)
+      (reading caller conn most : ℕ) → P (entry_of server reading caller conn (acts.Drain most))
+      → ForSome (made_by result (drain_made server reading caller conn most)) P
+  for_drain result server reading caller conn most p =
+      for_made result (drain_made server reading caller conn most)
+          (for_then (takes_some most (connection_of server conn))
+              (entry_of server reading caller conn (acts.Drain most)) p)
+
+  pub for_opened : (result : Result ℕ StepFault) (entry : ℕ → Entry) → ((c : ℕ) → P (entry c))
+      → ForSome (opened_by result entry) P
+  for_opened (Ok conn) entry p = for_one (entry conn) (p conn)
+  for_opened (Err fault) entry p = for_none
+
+-- What a request asks.
+
+pub asked_act : (o : Option Act) → IsSome o → (act : Act) × (o ≡ Some act)
+asked_act (Some act) some = (act, refl)
+asked_act None some = absurd (cc)
+
+-- it isn't a close
+pub asked_may : (request : Request) (act : Act) → act_of request ≡ Some act
+    → (state : State) (entry : Entry) → MayClose state entry act
+asked_may request (acts.Call op) is state entry = tt
+asked_may request (acts.Subscribe channel) is state entry = tt
+asked_may request (acts.Unsubscribe channel) is state entry = tt
+asked_may request acts.Open is state entry = tt
+asked_may request (acts.Drain most) is state entry = tt
+asked_may request acts.Close is state entry = absurd (no_close request is)
+  where
+    one : (make : ChannelOf → Act) → ((c : ChannelOf) → make c ≡ acts.Close → ⊥)
+        → (channels : List ChannelOf) → act_on_one make channels ≡ Some acts.Close → ⊥
+    one make n [] e = cc
+    one make n (c ∷ []) e = let same : make c ≡ acts.Close = cc in n c same
+    one make n (c ∷ d ∷ rest) e = cc
+
+    no_close : (r : Request) → act_of r ≡ Some acts.Close → ⊥
+    no_close (requests.Call op) e = cc
+    no_close (requests.Subscribe channels) e = one acts.Subscribe (λ c same. cc) channels e
+    no_close (requests.Unsubscribe channels) e = one acts.Unsubscribe (λ c same. cc) channels e
+    no_close requests.UnsubscribeAll e = cc
+    no_close requests.Quit e = cc
+
+-- A request.
+
+pub told_if : (state : State) (made : Option Entry) (result : Result Answered StepFault)
+    → IfOk result (λ a. told_by a.answer ≡ result_in state made)
+    → IfOk result (λ a. a.post ≡ post_in state made)
+    → IfOk result (λ a. a.reached ≡ reached_of (post_in state made) state.board)
+    → IfOk result (λ a. a.dropped ≡ dropped_of (post_in state made) state.board)
+    → IfOk result (IsTold state made)
+told_if state made (Ok a) t p r d = record { answer = t; post = p; reached = r; dropping = d }
+told_if state made (Err fault) t p r d = tt
+
+-- what the server says of a request that it was asked, and what was found in its history
+pub record IsStep (reading caller conn : ℕ) (act : Act) (result : Result Answered StepFault)
+    (found : Option Entry) (server : ServerValue) : Type 0 where
+  pub made : found ≡ made_by result (entry_made server reading caller conn act)
+  pub told : IfOk result (IsTold (state_of server) (entry_made server reading caller conn act))
+  pub full : (result ≡ Err HistoryFull) ↔ (fault_of server conn act ≡ Some HistoryFull)
+  pub dropped : (result ≡ Err Dropped) ↔ (fault_of server conn act ≡ Some Dropped)
+  pub not_too_many : result ≢ Err TooManyConnections
+
+pub served_here : (v now : View) (server : ServerValue) (reading caller conn : ℕ) (act : Act)
+    (result : Result Answered StepFault) (found : Option Entry) → IsServed server v.seen
+    → caller ≡ v.caller → IsStep reading caller conn act result found server
+    → HadTurn v v.seen found now → IsServedTo v reading conn act result now
+served_here v now server reading caller conn act result found served same is had =
+    let here : IsStep reading v.caller conn act result found (server_at v.seen) =
+        subst (λ (z : ℕ × ServerValue). IsStep reading z.0 conn act result found z.1)
+            (λ i. (same i, served.is i)) is in
+    let made : Option Entry = entry_made (server_at v.seen) reading v.caller conn act in
+    let both = had_by v now v.seen result made
+        (subst (λ o. HadTurn v v.seen o now) here.made had) in record {
+      history = v.seen;
+      told = here.told;
+      ok = both.0;
+      err = both.1;
+      full = here.full;
+      dropped = here.dropped;
+      not_too_many = here.not_too_many;
+    }
+
+-- A drain.
+
+pub record IsDrain (reading caller conn most : ℕ) (result : Result (List Push) StepFault)
+    (found : Option Entry) (server : ServerValue) : Type 0 where
+  pub made : found ≡ made_by result (drain_made server reading caller conn most)
+  pub items : IfOk result (λ items. IsHandedOut items
+      (result_made server (drain_made server reading caller conn most)))
+  pub full : (result ≡ Err HistoryFull) ↔ (drain_fault server conn most ≡ Some HistoryFull)
+  pub dropped : (result ≡ Err Dropped) ↔ (drain_fault server conn most ≡ Some Dropped)
+  pub not_too_many : result ≢ Err TooManyConnections
+
+-- the same as the pass knew it before it had the turn
+if_had : {A E : Type 0} (result : Result A E) (u v now : View) (history : List Entry)
+    (made : Option Entry) → IsSame u v → v.mine ≡ u.mine → Grew u v.seen
+    → OnOk result (HadTurn v history made now) → OnOk result (HadTurn u history made now)
+if_had (Ok value) u v now history made same mine grew had =
+    had_turn_on u v now history made same mine grew had
+if_had (Err fault) u v now history made same mine grew had = tt
+
+if_not : {A E : Type 0} (result : Result A E) (u v now : View) (history : List Entry) → IsSame u v
+    → v.mine ≡ u.mine → Grew u v.seen → OnErr result (HadTurn v history None now)
+    → OnErr result (HadTurn u history None now)
+if_not (Ok value) u v now history same mine grew had = tt
+if_not (Err fault) u v now history same mine grew had =
+    had_turn_on u v now history None same mine grew had
+
+pub drained_here : (u v now : View) (server : ServerValue) (reading caller conn most : ℕ)
+    (result : Result (List Push) StepFault) (found : Option Entry) → IsServed server v.seen
+    → caller ≡ v.caller → IsSame u v → v.mine ≡ u.mine → Grew u v.seen
+    → IsDrain reading caller conn most result found server
+    → HadTurn v v.seen found now → IsDrained u reading conn most result now
+drained_here u v now server reading caller conn most result found served its same mine grew is had =
+    let here : IsDrain reading u.caller conn most result found (server_at v.seen) =
+        subst (λ (z : ℕ × ServerValue). IsDrain reading z.0 conn most result found z.1)
+            (λ i. ((its ∙ same.caller) i, served.is i)) is in
+    let made : Option Entry = drain_made (server_at v.seen) reading u.caller conn most in
+    let both = had_by v now v.seen result made
+        (subst (λ o. HadTurn v v.seen o now) here.made had) in record {
+      history = v.seen;
+      items = here.items;
+      ok = if_had result u v now v.seen made same mine grew both.0;
+      err = if_not result u v now v.seen same mine grew both.1;
+      full = here.full;
+      dropped = here.dropped;
+      not_too_many = here.not_too_many;
+    }
+
+-- An opening.
+
+pub record IsOpening (reading caller : ℕ) (result : Result ℕ StepFault) (found : Option Entry)
+    (server : ServerValue) : Type 0 where
+  pub made : found ≡ opened_by result (λ conn. entry_of server reading caller conn acts.Open)
+  pub number : IfOk result (λ conn. Opens conn
+      ≡ result_of (state_of server) (entry_of server reading caller conn acts.Open))
+  pub too_many : (result ≡ Err TooManyConnections) ↔ (free_numbers (state_of server).board ≡ [])
+  pub full : (result ≡ Err HistoryFull) ↔ (free_numbers (state_of server).board ≢ [])
+      × IsTrue (is_refused server.entries acts.Open)
+  pub not_dropped : result ≢ Err Dropped
+
+if_opened : (result : Result ℕ StepFault) (u v now : View) (history : List Entry)
+    (entry : ℕ → Entry) → IsSame u v → v.mine ≡ u.mine → Grew u v.seen
+    → IfOk result (λ conn. HadTurn v history (Some (entry conn)) now)
+    → IfOk result (λ conn. HadTurn u history (Some (entry conn)) now)
+if_opened (Ok conn) u v now history entry same mine grew had =
+    had_turn_on u v now history (Some (entry conn)) same mine grew had
+if_opened (Err fault) u v now history entry same mine grew had = tt
+
+pub opened_here : (u v now : View) (server : ServerValue) (reading caller : ℕ)
+    (result : Result ℕ StepFault) (found : Option Entry) → IsServed server v.seen
+    → caller ≡ v.caller → IsSame u v → v.mine ≡ u.mine → Grew u v.seen
+    → IsOpening reading caller result found server
+    → HadTurn v v.seen found now → IsOpened u reading result now
+opened_here u v now server reading caller result found served its same mine grew is had =
+    let here : IsOpening reading u.caller result found (server_at v.seen) =
+        subst (λ (z : ℕ × ServerValue). IsOpening reading z.0 result found z.1)
+            (λ i. ((its ∙ same.caller) i, served.is i)) is in
+    let entry : ℕ → Entry =
+        λ conn. entry_of (server_at v.seen) reading u.caller conn acts.Open in
+    let both = had_opened v now v.seen result entry
+        (subst (λ o. HadTurn v v.seen o now) here.made had) in record {
+      history = v.seen;
+      number = here.number;
+      ok = if_opened result u v now v.seen entry same mine grew both.0;
+      err = if_not result u v now v.seen same mine grew both.1;
+      too_many = here.too_many;
+      full = here.full;
+      not_dropped = here.not_dropped;
+    }
+
+-- whose connection it then is
+pub opened_own : (u now : View) (reading : ℕ) (result : Result ℕ StepFault)
+    → IsOpened u reading result now → IfOk result (IsOwnConnection now)
+opened_own u now reading (Err fault) is = tt
+opened_own u now reading (Ok conn) is =
+    let history : List Entry = is.history in
+    let entry : Entry = entry_of (server_at history) reading u.caller conn acts.Open in
+    let before : State = after (state_at_start 0) history in
+    ap (λ (l : List Entry). ((after (state_at_start 0) l).board conn).opener) is.ok.seen
+    ∙ (ap (λ (s : State). (s.board conn).opener) (after-push (state_at_start 0) history entry)
+    ∙ (ap (λ (b : Bool). (if b then new_connection u.caller else before.board conn).opener)
+        (eq-eqb conn conn refl)
+    ∙ ap Some (sym is.ok.same.caller)))
+
+-- A close.
+
+pub may_close : (v : View) (server : ServerValue) (reading caller conn : ℕ)
+    → IsServed server v.seen → caller ≡ v.caller → CanClose v conn
+    → IsOwnClose (after (state_at_start 0) v.seen)
+        (entry_of server reading caller conn acts.Close)
+may_close v server reading caller conn served its can = record {
+  own = can.own ∙ ap Some (sym its);
+  not_first = can.not_first;
+}
+
+pub closed_here : (u v now : View) (server : ServerValue) (reading caller conn : ℕ)
+    (found : Option Entry) → IsServed server v.seen → caller ≡ v.caller → IsSame u v
+    → v.mine ≡ u.mine → Grew u v.seen
+    → found ≡ Some (entry_of server reading caller conn acts.Close)
+    → HadTurn v v.seen found now → IsClosed u reading conn now
+closed_here u v now server reading caller conn found served its same mine grew made had =
+    let entry : Entry = entry_of (server_at v.seen) reading u.caller conn acts.Close in
+    let here : found ≡ Some entry =
+        subst (λ (z : ℕ × ServerValue). found ≡ Some (entry_of z.1 reading z.0 conn acts.Close))
+            (λ i. ((its ∙ same.caller) i, served.is i)) made in record {
+      history = v.seen;
+      made = had_turn_on u v now v.seen (Some entry) same mine grew
+          (subst (λ o. HadTurn v v.seen o now) here had);
+    }
+
+-- A gate that was entered at once.
+
+pub entered_same : (u v : View) (word : ℕ) → v ≡ took (looked u v.seen word) v.seen word
+    → IsSame u v
+entered_same u v word is = same_if u v (took (looked u v.seen word) v.seen word) is refl refl refl
+    refl refl refl

@@ -1,0 +1,22 @@
+-- Who closes connections: of a server that many callers call, this project's own.
+use Rattle.std.specs.Prelude.{◌≡◌, ◌≢◌, ℕ, List, [], ◌∷◌, Some}
+use Rattle.lr_model.specs.declared.entry.Act.{Act}
+use Rattle.lr_model.specs.declared.entry.Act.TheVariants.{Close}
+use Rattle.lr_model.specs.declared.entry.Entry.{Entry}
+use Rattle.lr_model.specs.History.{State, step}
+
+-- a connection is closed by the caller who opened it, and isn't connection 0
+pub record IsOwnClose (state : State) (entry : Entry) : Type 0 where
+  pub own : (state.board entry.conn).opener ≡ Some entry.caller
+  pub not_first : entry.conn ≢ 0
+
+-- what is asked of the act of an entry: something of a close alone
+abbrev pub MayClose : State → Entry → Act → Type 0
+MayClose state entry Close = IsOwnClose state entry
+MayClose state entry _ = Unit {0}
+
+-- each close of a history is such a close
+abbrev pub ClosesOwn : State → List Entry → Type 0
+ClosesOwn state [] = Unit {0}
+ClosesOwn state (entry ∷ entries) =
+    MayClose state entry entry.act × ClosesOwn (step state entry) entries
