@@ -40,6 +40,13 @@ still_usable u v server conn same grew served (inl zero) = inl zero
 still_usable u v server conn same grew served (inr own) =
     inr (still_own u v server conn same grew served own)
 
+pub still_closable : (u v : View) (server : ServerValue) (conn : ℕ) → v.caller ≡ u.caller
+    → Grew u v.seen → IsServed server v.seen → CanClose u conn → CanClose v conn
+still_closable u v server conn same grew served can = record {
+  own = still_own u v server conn same grew served can.own;
+  not_first = can.not_first;
+}
+
 own_open : (view : View) (server : ServerValue) (conn : ℕ) → IsServed server view.seen
     → IsOwnConnection view conn → IsTrue (is_open (connection_of server conn))
 own_open view server conn served own =
