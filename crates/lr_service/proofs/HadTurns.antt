@@ -1,19 +1,17 @@
 -- What a call knows after its turn.
-use Rattle.std.proofs.Common.{◌≡◌, ℕ, zero, suc, List, [], ◌∷◌, ◌++◌, length, Option, Some, None, refl, sym, ap, ◌∙◌, subst, append_assoc, append-nil}
+use Rattle.std.proofs.Common.{◌≡◌, ℕ, List, [], ◌∷◌, ◌++◌, length, Option, Some, None, refl, sym, ap, ◌∙◌, subst, append_assoc, append-nil}
 use Rattle.std.specs.Prelude.{Result, Ok, Err, IfOk, OnOk, OnErr, slice_get}
 use Rattle.std.specs.Option.{ForSome}
 use Rattle.lr_model.specs.declared.entry.Act.{Act}
-use Rattle.lr_model.specs.declared.entry.Act.TheVariants as acts
 use Rattle.lr_model.specs.declared.entry.Entry.{Entry}
-use Rattle.lr_model.specs.History.{State, after, IsLegal, state_at_start}
-use Rattle.lr_commands.specs.declared.request.Request.{Request}
+use Rattle.lr_model.specs.History.{after, IsLegal, state_at_start}
 use Rattle.lr_server.specs.declared.answered.Answered.{Answered}
 use Rattle.lr_server.specs.declared.fault.StepFault.{StepFault}
-use Rattle.lr_server.specs.Server.{ServerValue, state_of, with_entry, with_made, entry_made, is_asked, IsTold}
+use Rattle.lr_server.specs.Server.{ServerValue, state_of, with_entry, with_made, entry_made, IsTold}
 use Rattle.lr_turnstile.specs.declared.view.View.{View}
 use Rattle.lr_turnstile.specs.Views.{entries_by, Grew, HasOwn, IsSame, left_with, left_same}
 use Rattle.lr_turnstile.proofs.Lists.{entries_by-append}
-use Rattle.lr_service.specs.Closes.{MayClose, ClosesOwn}
+use Rattle.lr_service.specs.Closes.{MayClose}
 use Rattle.lr_service.specs.Served.{server_at, IsServed}
 use Rattle.lr_service.specs.Calls.{entries_with, HadTurn, IsServedTo}
 use Rattle.lr_service.proofs.Openers.{ClosesOwn-push}
@@ -78,11 +76,11 @@ pub found_made : (old new : ServerValue) (seen : List Entry) (made found : Optio
     → found ≡ slice_get new.entries count → found ≡ made
 found_made old new seen made found count served is counted at =
     let news : new.entries ≡ entries_with seen made =
-        ap (λ (s : ServerValue). s.entries)
-            (is ∙ ap (λ (s : ServerValue). with_made s made) served.is)
-        ∙ made_entries seen made in
+    ap (λ (s : ServerValue). s.entries)
+    (is ∙ ap (λ (s : ServerValue). with_made s made) served.is)
+    ∙ made_entries seen made in
     let counts : count ≡ length seen =
-        counted ∙ ap (λ (s : ServerValue). length s.entries) served.is in
+    counted ∙ ap (λ (s : ServerValue). length s.entries) served.is in
     at ∙ ((λ i. slice_get (news i) (counts i)) ∙ found_at seen made)
 
 -- it stands for the longer history
@@ -98,7 +96,7 @@ served_with old new seen None served is legal may = record {
 }
 served_with old new seen (Some entry) served is legal may =
     let now : new ≡ server_at (seen ++ entry ∷ []) =
-        is ∙ ap (λ (s : ServerValue). with_entry s entry) served.is in record {
+    is ∙ ap (λ (s : ServerValue). with_entry s entry) served.is in record {
       is = now;
       legal = subst (λ (s : ServerValue). IsLegal (state_at_start s.last) s.entries) now legal;
       closes = ClosesOwn-push (state_at_start 0) seen entry served.closes (may entry refl);
@@ -180,7 +178,7 @@ served_on u v now reading conn act (Ok answered) same mine grew s =
           same.caller s.told;
       ok = subst (λ c. HadTurn u s.history (entry_made server reading c conn act) now) same.caller
           (had_turn_on u v now s.history (entry_made server reading v.caller conn act) same mine
-              grew s.ok);
+          grew s.ok);
       err = tt;
       full = s.full;
       dropped = s.dropped;

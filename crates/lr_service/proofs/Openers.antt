@@ -1,6 +1,6 @@
 -- Who has opened a connection stays the same, until the connection is closed.
-use Rattle.std.proofs.Common.{◌≡◌, ◌≢◌, ℕ, ◌==◌, Bool, true, false, if◌then◌else◌, List, [], ◌∷◌, ◌++◌, cond, Option, Some, None, is_some, refl, sym, ap, ◌∙◌, subst, eqb-true, eq-eqb, ne_eqb}
-use Rattle.std.proofs.lemmas.Bool.{true≢false, false≢true}
+use Rattle.std.proofs.Common.{◌≡◌, ◌≢◌, ℕ, ◌==◌, Bool, true, false, if◌then◌else◌, List, [], ◌∷◌, ◌++◌, cond, Option, Some, None, is_some, refl, sym, ap, ◌∙◌, eqb-true, eq-eqb, ne_eqb}
+use Rattle.std.proofs.lemmas.Bool.{true≢false}
 use Rattle.lr_names.specs.declared.post.Post.{Post}
 use Rattle.lr_names.specs.declared.post.Push.TheVariants.{Message}
 use Rattle.lr_model.specs.declared.entry.Act.{Act}
@@ -8,7 +8,7 @@ use Rattle.lr_model.specs.declared.entry.Act.TheVariants.{Call, Subscribe, Unsub
 use Rattle.lr_model.specs.declared.entry.Entry.{Entry}
 use Rattle.lr_model.specs.Answer.{post_of}
 use Rattle.lr_model.specs.Board.{Board, Connection, is_open, has_channel, has_room, with_item, dropped_connection, connection_after_post, board_after_post, with_connection}
-use Rattle.lr_model.specs.History.{State, step, after, board_by, IsAllowed, MayFollow, IsLegal}
+use Rattle.lr_model.specs.History.{State, step, after, board_by, IsAllowed, IsLegal}
 use Rattle.lr_server.proofs.Serves.{least_is_free}
 use Rattle.lr_turnstile.specs.Views.{entries_by}
 use Rattle.lr_service.specs.Closes.{MayClose, ClosesOwn}

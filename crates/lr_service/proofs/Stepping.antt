@@ -1,5 +1,5 @@
 -- What the server's steps come to for the pass that made them.
-use Rattle.std.proofs.Common.{◌≡◌, ◌≢◌, ◌↔◌, ℕ, Bool, true, false, if◌then◌else◌, List, [], ◌∷◌, ◌++◌, Option, Some, None, refl, sym, ap, ◌∙◌, subst, eq-eqb, ◌==◌}
+use Rattle.std.proofs.Common.{◌≡◌, ◌≢◌, ◌↔◌, ℕ, Bool, true, false, if◌then◌else◌, List, [], ◌∷◌, Option, Some, None, refl, sym, ap, ◌∙◌, subst, eq-eqb}
 use Rattle.std.specs.Prelude.{Result, Ok, Err, IfOk, OnOk, OnErr, IsSome, IsTrue}
 use Rattle.std.specs.Option.{ForSome}
 use Rattle.lr_commands.specs.declared.request.Request.{Request}
@@ -10,8 +10,8 @@ use Rattle.lr_names.specs.declared.post.Push.{Push}
 use Rattle.lr_model.specs.declared.entry.Act.{Act}
 use Rattle.lr_model.specs.declared.entry.Act.TheVariants as acts
 use Rattle.lr_model.specs.declared.entry.Entry.{Entry}
-use Rattle.lr_model.specs.Board.{Board, Connection, free_numbers, new_connection, with_connection}
-use Rattle.lr_model.specs.History.{State, EntryResult, Opens, result_of, after, state_at_start}
+use Rattle.lr_model.specs.Board.{free_numbers, new_connection}
+use Rattle.lr_model.specs.History.{State, Opens, result_of, after, state_at_start}
 use Rattle.lr_model.proofs.Histories.{after-push}
 use Rattle.lr_server.specs.declared.answered.Answered.{Answered}
 use Rattle.lr_server.specs.declared.fault.StepFault.{StepFault}
@@ -22,7 +22,7 @@ use Rattle.lr_turnstile.specs.Views.{Grew, IsSame, looked, took}
 use Rattle.lr_service.specs.Closes.{MayClose, IsOwnClose}
 use Rattle.lr_service.specs.Served.{server_at, IsServed}
 use Rattle.lr_service.specs.Passes.{IsOwnConnection, CanClose}
-use Rattle.lr_service.specs.Calls.{entries_with, HadTurn, IsServedTo, IsOpened, IsDrained, IsClosed}
+use Rattle.lr_service.specs.Calls.{HadTurn, IsServedTo, IsOpened, IsDrained, IsClosed}
 use Rattle.lr_service.proofs.HadTurns.{made_by, opened_by, had_by, had_opened, had_turn_on, same_if}
 
 -- What is so of each entry that a step can make.
@@ -55,16 +55,16 @@ module _ (P : Entry → Type 0) where
       → ForSome (made_by result (entry_made server reading caller conn act)) P
   for_step result server reading caller conn act p =
       for_made result (entry_made server reading caller conn act)
-          (for_if (is_only_subscribed act (connection_of server conn))
-              (entry_of server reading caller conn act) p)
+      (for_if (is_only_subscribed act (connection_of server conn))
+      (entry_of server reading caller conn act) p)
 
   pub for_drain : (result : Result (List Push) StepFault) (server : ServerValue)
       (reading caller conn most : ℕ) → P (entry_of server reading caller conn (acts.Drain most))
       → ForSome (made_by result (drain_made server reading caller conn most)) P
   for_drain result server reading caller conn most p =
       for_made result (drain_made server reading caller conn most)
-          (for_then (takes_some most (connection_of server conn))
-              (entry_of server reading caller conn (acts.Drain most)) p)
+      (for_then (takes_some most (connection_of server conn))
+      (entry_of server reading caller conn (acts.Drain most)) p)
 
   pub for_opened : (result : Result ℕ StepFault) (entry : ℕ → Entry) → ((c : ℕ) → P (entry c))
       → ForSome (opened_by result entry) P
@@ -126,11 +126,11 @@ pub served_here : (v now : View) (server : ServerValue) (reading caller conn : �
     → HadTurn v v.seen found now → IsServedTo v reading conn act result now
 served_here v now server reading caller conn act result found served same is had =
     let here : IsStep reading v.caller conn act result found (server_at v.seen) =
-        subst (λ (z : ℕ × ServerValue). IsStep reading z.0 conn act result found z.1)
-            (λ i. (same i, served.is i)) is in
+    subst (λ (z : ℕ × ServerValue). IsStep reading z.0 conn act result found z.1)
+    (λ i. (same i, served.is i)) is in
     let made : Option Entry = entry_made (server_at v.seen) reading v.caller conn act in
     let both = had_by v now v.seen result made
-        (subst (λ o. HadTurn v v.seen o now) here.made had) in record {
+    (subst (λ o. HadTurn v v.seen o now) here.made had) in record {
       history = v.seen;
       told = here.told;
       ok = both.0;
@@ -173,11 +173,11 @@ pub drained_here : (u v now : View) (server : ServerValue) (reading caller conn 
     → HadTurn v v.seen found now → IsDrained u reading conn most result now
 drained_here u v now server reading caller conn most result found served its same mine grew is had =
     let here : IsDrain reading u.caller conn most result found (server_at v.seen) =
-        subst (λ (z : ℕ × ServerValue). IsDrain reading z.0 conn most result found z.1)
-            (λ i. ((its ∙ same.caller) i, served.is i)) is in
+    subst (λ (z : ℕ × ServerValue). IsDrain reading z.0 conn most result found z.1)
+    (λ i. ((its ∙ same.caller) i, served.is i)) is in
     let made : Option Entry = drain_made (server_at v.seen) reading u.caller conn most in
     let both = had_by v now v.seen result made
-        (subst (λ o. HadTurn v v.seen o now) here.made had) in record {
+    (subst (λ o. HadTurn v v.seen o now) here.made had) in record {
       history = v.seen;
       items = here.items;
       ok = if_had result u v now v.seen made same mine grew both.0;
@@ -214,12 +214,12 @@ pub opened_here : (u v now : View) (server : ServerValue) (reading caller : ℕ)
     → HadTurn v v.seen found now → IsOpened u reading result now
 opened_here u v now server reading caller result found served its same mine grew is had =
     let here : IsOpening reading u.caller result found (server_at v.seen) =
-        subst (λ (z : ℕ × ServerValue). IsOpening reading z.0 result found z.1)
-            (λ i. ((its ∙ same.caller) i, served.is i)) is in
+    subst (λ (z : ℕ × ServerValue). IsOpening reading z.0 result found z.1)
+    (λ i. ((its ∙ same.caller) i, served.is i)) is in
     let entry : ℕ → Entry =
-        λ conn. entry_of (server_at v.seen) reading u.caller conn acts.Open in
+    λ conn. entry_of (server_at v.seen) reading u.caller conn acts.Open in
     let both = had_opened v now v.seen result entry
-        (subst (λ o. HadTurn v v.seen o now) here.made had) in record {
+    (subst (λ o. HadTurn v v.seen o now) here.made had) in record {
       history = v.seen;
       number = here.number;
       ok = if_opened result u v now v.seen entry same mine grew both.0;
@@ -240,7 +240,7 @@ opened_own u now reading (Ok conn) is =
     ap (λ (l : List Entry). ((after (state_at_start 0) l).board conn).opener) is.ok.seen
     ∙ (ap (λ (s : State). (s.board conn).opener) (after-push (state_at_start 0) history entry)
     ∙ (ap (λ (b : Bool). (if b then new_connection u.caller else before.board conn).opener)
-        (eq-eqb conn conn refl)
+    (eq-eqb conn conn refl)
     ∙ ap Some (sym is.ok.same.caller)))
 
 -- A close.
@@ -248,7 +248,7 @@ opened_own u now reading (Ok conn) is =
 pub may_close : (v : View) (server : ServerValue) (reading caller conn : ℕ)
     → IsServed server v.seen → caller ≡ v.caller → CanClose v conn
     → IsOwnClose (after (state_at_start 0) v.seen)
-        (entry_of server reading caller conn acts.Close)
+    (entry_of server reading caller conn acts.Close)
 may_close v server reading caller conn served its can = record {
   own = can.own ∙ ap Some (sym its);
   not_first = can.not_first;
@@ -262,8 +262,8 @@ pub closed_here : (u v now : View) (server : ServerValue) (reading caller conn :
 closed_here u v now server reading caller conn found served its same mine grew made had =
     let entry : Entry = entry_of (server_at v.seen) reading u.caller conn acts.Close in
     let here : found ≡ Some entry =
-        subst (λ (z : ℕ × ServerValue). found ≡ Some (entry_of z.1 reading z.0 conn acts.Close))
-            (λ i. ((its ∙ same.caller) i, served.is i)) made in record {
+    subst (λ (z : ℕ × ServerValue). found ≡ Some (entry_of z.1 reading z.0 conn acts.Close))
+    (λ i. ((its ∙ same.caller) i, served.is i)) made in record {
       history = v.seen;
       made = had_turn_on u v now v.seen (Some entry) same mine grew
           (subst (λ o. HadTurn v v.seen o now) here had);

@@ -1,6 +1,6 @@
 ghost use Rattle.std.specs.Prelude.{◌≡◌, ◌≢◌, ℕ, Some, IsSome, IfOk};
 ghost use Rattle.lr_model.specs.declared.entry.Act.{Act};
-ghost use Rattle.lr_turnstile.specs.Views.{IsAlone};
+ghost use Rattle.lr_turnstile.specs.Views.{IsAlone, IsSame};
 ghost use Rattle.lr_turnstile.specs.Passes.{view, IsSamePass, HasNoTurn};
 ghost use Rattle.lr_server.specs.Server.{act_of};
 ghost use Rattle.lr_service.specs.Passes.{IsPassOf, IsOwnConnection, CanUse, CanClose};
@@ -33,7 +33,8 @@ impl Service {
         requires conn { CanUse (view pass.old) conn }
         requires request { IsSome (act_of request.now) }
         ensures pass { IsSamePass pass.old pass.new }
-        ensures same { HasNoTurn pass.new }
+        ensures free { HasNoTurn pass.new }
+        ensures same { IsSame (view pass.old) (view pass.new) }
         ensures served { (act : Act) → act_of request.now ≡ Some act
             → IsServedTo (view pass.old) reading conn act result (view pass.new) }
     {
@@ -56,7 +57,8 @@ impl Service {
         requires conn { CanUse (view pass.old) conn }
         requires request { IsSome (act_of request.now) }
         ensures pass { IsSamePass pass.old pass.new }
-        ensures same { HasNoTurn pass.new }
+        ensures free { HasNoTurn pass.new }
+        ensures same { IsSame (view pass.old) (view pass.new) }
         ensures tried { (act : Act) → act_of request.now ≡ Some act
             → IsTried (view pass.old) reading conn act result (view pass.new) }
         ensures alone { IsAlone (view pass.old) → (word : ℕ) → result ≢ Err (TryFault.Busy word) }
@@ -81,7 +83,8 @@ impl Service {
         requires of { IsPassOf self.now pass.old }
         requires free { HasNoTurn pass.old }
         ensures pass { IsSamePass pass.old pass.new }
-        ensures same { HasNoTurn pass.new }
+        ensures free { HasNoTurn pass.new }
+        ensures same { IsSame (view pass.old) (view pass.new) }
         ensures opened { IsOpened (view pass.old) reading result (view pass.new) }
         ensures own { IfOk result (IsOwnConnection (view pass.new)) }
     {
@@ -107,7 +110,8 @@ impl Service {
         requires free { HasNoTurn pass.old }
         requires conn { CanUse (view pass.old) conn }
         ensures pass { IsSamePass pass.old pass.new }
-        ensures same { HasNoTurn pass.new }
+        ensures free { HasNoTurn pass.new }
+        ensures same { IsSame (view pass.old) (view pass.new) }
         ensures drained { IsDrained (view pass.old) reading conn most result (view pass.new) }
     {
         let Served { mut state } = self.gate.enter(rt, pass);
@@ -124,7 +128,8 @@ impl Service {
         requires free { HasNoTurn pass.old }
         requires conn { CanClose (view pass.old) conn }
         ensures pass { IsSamePass pass.old pass.new }
-        ensures same { HasNoTurn pass.new }
+        ensures free { HasNoTurn pass.new }
+        ensures same { IsSame (view pass.old) (view pass.new) }
         ensures closed { IsClosed (view pass.old) reading conn (view pass.new) }
     {
         let Served { mut state } = self.gate.enter(rt, pass);

@@ -35,7 +35,7 @@ impl Service {
         requires first { (view pass.old).is_first ≡ true }
         requires room { (view pass.old).made < MOST_PASSES }
         ensures pass { IsSamePass pass.old pass.new }
-        ensures same { HasNoTurn pass.new }
+        ensures no_turn { HasNoTurn pass.new }
         ensures made { view pass.new ≡ after_split (view pass.old) }
         ensures other_of { IsPassOf self.entry.now result }
         ensures other_free { HasNoTurn result }
@@ -54,7 +54,7 @@ impl Service {
         requires other_free { HasNoTurn other }
         requires other { (view other).is_first ≡ false }
         ensures pass { IsSamePass pass.old pass.new }
-        ensures same { HasNoTurn pass.new }
+        ensures no_turn { HasNoTurn pass.new }
         ensures joined { view pass.new ≡ after_join (view pass.old) (view other) }
     {
         self.gate.join(pass, other);
@@ -65,7 +65,7 @@ impl Service {
         requires of { IsPassOf self.now pass.old }
         requires free { HasNoTurn pass.old }
         ensures pass { IsSamePass pass.old pass.new }
-        ensures same { HasNoTurn pass.new }
+        ensures no_turn { HasNoTurn pass.new }
         ensures looked { HasLooked (view pass.old) (view pass.new).last_word (view pass.new) }
         ensures front { result ≡ length (view pass.new).seen }
     {

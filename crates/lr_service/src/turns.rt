@@ -1,7 +1,7 @@
 ghost use Rattle.std.specs.Prelude.{◌≡◌, Some, IsSome};
 ghost use Rattle.std.specs.Option.{ForSome};
 ghost use Rattle.lr_model.specs.declared.entry.Act.{Act};
-ghost use Rattle.lr_turnstile.specs.Views.{HasOwn};
+ghost use Rattle.lr_turnstile.specs.Views.{HasOwn, IsSame};
 ghost use Rattle.lr_turnstile.specs.Passes.{view, IsSamePass, HasTurn, HasNoTurn};
 ghost use Rattle.lr_server.specs.Server.{act_of};
 ghost use Rattle.lr_service.specs.Served.{IsServed};
@@ -32,6 +32,7 @@ impl Service {
         requires request { IsSome (act_of request.now) }
         ensures pass { IsSamePass pass.old pass.new }
         ensures free { HasNoTurn pass.new }
+        ensures same { IsSame (view pass.old) (view pass.new) }
         ensures served { (act : Act) → act_of request.now ≡ Some act
             → IsServedTo (view pass.old) reading conn act result (view pass.new) }
     {

@@ -1,4 +1,4 @@
-use Rattle.std.proofs.Common.{◌≡◌, ℕ, length, Option, Some, refl, sym, ap, ◌∙◌, subst}
+use Rattle.std.proofs.Common.{◌≡◌, length, Option, Some, sym, ap, ◌∙◌, subst}
 use Rattle.std.specs.Prelude.{slice_get}
 use Rattle.lr_model.specs.declared.entry.Act.TheVariants as acts
 use Rattle.lr_model.specs.declared.entry.Entry.{Entry}
@@ -19,8 +19,8 @@ close-requires g c =
     let v = view c.enter-state.new.pass in
     let old = c.enter-state.result.state in
     closable_open v old c.args.conn w.it_stands.1
-        (still_closable (view c.args.pass.now) v old c.args.conn w.same.caller w.grew
-            w.it_stands.1 c.requires.conn)
+    (still_closable (view c.args.pass.now) v old c.args.conn w.same.caller w.grew
+    w.it_stands.1 c.requires.conn)
 
 pub leave-requires-clause-server : goal.leave-requires-clause-server
 leave-requires-clause-server g c =
@@ -33,15 +33,15 @@ leave-requires-clause-server g c =
     let is = s.entry in
     let count = c.len-before.ensures.value ∙ ap length c.history.ensures.entries in
     let at = c.get-made.ensures
-        ∙ ap (λ l. slice_get l c.len-before.result) c.history-2.ensures.entries in
+    ∙ ap (λ l. slice_get l c.len-before.result) c.history-2.ensures.entries in
     let found = found_made old c.close.new.self v.seen made c.get-made.result
-        c.len-before.result served is count at in
+    c.len-before.result served is count at in
     subst (λ o. IsServed c.close.new.self (entries_with v.seen o)) (sym found)
-        (served_with old c.close.new.self v.seen made served is c.history-2.ensures.legal
-            (for_one (λ entry. MayClose (after (state_at_start 0) v.seen) entry entry.act) (entry_of old c.args.reading c.caller.result c.args.conn acts.Close)
-                (may_close v old c.args.reading c.caller.result c.args.conn served c.caller.ensures
-                    (still_closable (view c.args.pass.now) v old c.args.conn w.same.caller w.grew
-                        served c.requires.conn))))
+    (served_with old c.close.new.self v.seen made served is c.history-2.ensures.legal
+    (for_one (λ entry. MayClose (after (state_at_start 0) v.seen) entry entry.act) (entry_of old c.args.reading c.caller.result c.args.conn acts.Close)
+    (may_close v old c.args.reading c.caller.result c.args.conn served c.caller.ensures
+    (still_closable (view c.args.pass.now) v old c.args.conn w.same.caller w.grew
+    served c.requires.conn))))
 
 pub leave-requires-clause-caller : goal.leave-requires-clause-caller
 leave-requires-clause-caller g c =
@@ -54,11 +54,11 @@ leave-requires-clause-caller g c =
     let is = s.entry in
     let count = c.len-before.ensures.value ∙ ap length c.history.ensures.entries in
     let at = c.get-made.ensures
-        ∙ ap (λ l. slice_get l c.len-before.result) c.history-2.ensures.entries in
+    ∙ ap (λ l. slice_get l c.len-before.result) c.history-2.ensures.entries in
     let found = found_made old c.close.new.self v.seen made c.get-made.result
-        c.len-before.result served is count at in
+    c.len-before.result served is count at in
     for_found (λ entry. entry.caller ≡ v.caller) made c.get-made.result found
-        (for_one (λ entry. entry.caller ≡ v.caller) (entry_of old c.args.reading c.caller.result c.args.conn acts.Close) c.caller.ensures)
+    (for_one (λ entry. entry.caller ≡ v.caller) (entry_of old c.args.reading c.caller.result c.args.conn acts.Close) c.caller.ensures)
 
 pub returns-clause-closed : goal.returns-clause-closed
 returns-clause-closed g c =
@@ -71,9 +71,9 @@ returns-clause-closed g c =
     let is = s.entry in
     let count = c.len-before.ensures.value ∙ ap length c.history.ensures.entries in
     let at = c.get-made.ensures
-        ∙ ap (λ l. slice_get l c.len-before.result) c.history-2.ensures.entries in
+    ∙ ap (λ l. slice_get l c.len-before.result) c.history-2.ensures.entries in
     let found = found_made old c.close.new.self v.seen made c.get-made.result
-        c.len-before.result served is count at in
+    c.len-before.result served is count at in
     closed_here (view c.args.pass.now) v (view c.leave.new.pass) old c.args.reading
-        c.caller.result c.args.conn c.get-made.result served c.caller.ensures w.same w.mine w.grew
-        found c.leave.ensures.left
+    c.caller.result c.args.conn c.get-made.result served c.caller.ensures w.same w.mine w.grew
+    found c.leave.ensures.left

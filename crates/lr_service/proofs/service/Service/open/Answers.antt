@@ -1,4 +1,4 @@
-use Rattle.std.proofs.Common.{◌≡◌, ℕ, length, Option, Some, refl, sym, ap, ◌∙◌, subst}
+use Rattle.std.proofs.Common.{◌≡◌, length, Option, sym, ap, ◌∙◌, subst}
 use Rattle.std.specs.Prelude.{slice_get}
 use Rattle.lr_model.specs.declared.entry.Act.TheVariants as acts
 use Rattle.lr_model.specs.declared.entry.Entry.{Entry}
@@ -21,16 +21,16 @@ leave-requires-clause-server g c =
     let s = c.open-result.ensures in
     let made : Option Entry = opened_by c.open-result.result (λ conn. entry_of old c.args.reading c.caller.result conn acts.Open) in
     let is = opened_is old c.open-result.new.self c.open-result.result
-        (λ conn. entry_of old c.args.reading c.caller.result conn acts.Open) s.entry s.err in
+    (λ conn. entry_of old c.args.reading c.caller.result conn acts.Open) s.entry s.err in
     let count = c.len-before.ensures.value ∙ ap length c.history.ensures.entries in
     let at = c.get-made.ensures
-        ∙ ap (λ l. slice_get l c.len-before.result) c.history-2.ensures.entries in
+    ∙ ap (λ l. slice_get l c.len-before.result) c.history-2.ensures.entries in
     let found = found_made old c.open-result.new.self v.seen made c.get-made.result
-        c.len-before.result served is count at in
+    c.len-before.result served is count at in
     subst (λ o. IsServed c.open-result.new.self (entries_with v.seen o)) (sym found)
-        (served_with old c.open-result.new.self v.seen made served is c.history-2.ensures.legal
-            (for_opened (λ entry. MayClose (after (state_at_start 0) v.seen) entry entry.act)
-                c.open-result.result (λ conn. entry_of old c.args.reading c.caller.result conn acts.Open) (λ conn. tt)))
+    (served_with old c.open-result.new.self v.seen made served is c.history-2.ensures.legal
+    (for_opened (λ entry. MayClose (after (state_at_start 0) v.seen) entry entry.act)
+    c.open-result.result (λ conn. entry_of old c.args.reading c.caller.result conn acts.Open) (λ conn. tt)))
 
 pub leave-requires-clause-caller : goal.leave-requires-clause-caller
 leave-requires-clause-caller g c =
@@ -41,15 +41,15 @@ leave-requires-clause-caller g c =
     let s = c.open-result.ensures in
     let made : Option Entry = opened_by c.open-result.result (λ conn. entry_of old c.args.reading c.caller.result conn acts.Open) in
     let is = opened_is old c.open-result.new.self c.open-result.result
-        (λ conn. entry_of old c.args.reading c.caller.result conn acts.Open) s.entry s.err in
+    (λ conn. entry_of old c.args.reading c.caller.result conn acts.Open) s.entry s.err in
     let count = c.len-before.ensures.value ∙ ap length c.history.ensures.entries in
     let at = c.get-made.ensures
-        ∙ ap (λ l. slice_get l c.len-before.result) c.history-2.ensures.entries in
+    ∙ ap (λ l. slice_get l c.len-before.result) c.history-2.ensures.entries in
     let found = found_made old c.open-result.new.self v.seen made c.get-made.result
-        c.len-before.result served is count at in
+    c.len-before.result served is count at in
     for_found (λ entry. entry.caller ≡ v.caller) made c.get-made.result found
-        (for_opened (λ entry. entry.caller ≡ v.caller) c.open-result.result
-            (λ conn. entry_of old c.args.reading c.caller.result conn acts.Open) (λ conn. c.caller.ensures))
+    (for_opened (λ entry. entry.caller ≡ v.caller) c.open-result.result
+    (λ conn. entry_of old c.args.reading c.caller.result conn acts.Open) (λ conn. c.caller.ensures))
 
 pub returns-clause-opened : goal.returns-clause-opened
 returns-clause-opened g c =
@@ -60,25 +60,25 @@ returns-clause-opened g c =
     let s = c.open-result.ensures in
     let made : Option Entry = opened_by c.open-result.result (λ conn. entry_of old c.args.reading c.caller.result conn acts.Open) in
     let is = opened_is old c.open-result.new.self c.open-result.result
-        (λ conn. entry_of old c.args.reading c.caller.result conn acts.Open) s.entry s.err in
+    (λ conn. entry_of old c.args.reading c.caller.result conn acts.Open) s.entry s.err in
     let count = c.len-before.ensures.value ∙ ap length c.history.ensures.entries in
     let at = c.get-made.ensures
-        ∙ ap (λ l. slice_get l c.len-before.result) c.history-2.ensures.entries in
+    ∙ ap (λ l. slice_get l c.len-before.result) c.history-2.ensures.entries in
     let found = found_made old c.open-result.new.self v.seen made c.get-made.result
-        c.len-before.result served is count at in
+    c.len-before.result served is count at in
     opened_here (view c.args.pass.now) v (view c.leave.new.pass) old c.args.reading
-        c.caller.result c.open-result.result c.get-made.result served c.caller.ensures w.same w.mine
-        w.grew
-        (record {
-          made = found;
-          number = s.number;
-          too_many = s.too_many;
-          full = s.full;
-          not_dropped = s.not_dropped;
-        })
-        c.leave.ensures.left
+    c.caller.result c.open-result.result c.get-made.result served c.caller.ensures w.same w.mine
+    w.grew
+    (record {
+      made = found;
+      number = s.number;
+      too_many = s.too_many;
+      full = s.full;
+      not_dropped = s.not_dropped;
+    })
+    c.leave.ensures.left
 
 pub returns-clause-own : goal.returns-clause-own
 returns-clause-own g c =
     opened_own (view c.args.pass.now) (view c.leave.new.pass) c.args.reading c.open-result.result
-        (returns-clause-opened g c)
+    (returns-clause-opened g c)
