@@ -1,17 +1,17 @@
 -- Who has opened a connection stays the same, until the connection is closed.
 use Rattle.std.proofs.Common.{◌≡◌, ◌≢◌, ℕ, ◌==◌, Bool, true, false, if◌then◌else◌, List, [], ◌∷◌, ◌++◌, cond, Option, Some, None, is_some, refl, sym, ap, ◌∙◌, eqb-true, eq-eqb, ne_eqb}
-use Rattle.std.proofs.lemmas.Bool.{true≢false}
+use Rattle.std.proofs.lemmas.Bool.{true≢false, false≢true}
 use Rattle.lr_names.specs.declared.post.Post.{Post}
 use Rattle.lr_names.specs.declared.post.Push.TheVariants.{Message}
 use Rattle.lr_model.specs.declared.entry.Act.{Act}
 use Rattle.lr_model.specs.declared.entry.Act.TheVariants.{Call, Subscribe, Unsubscribe, Open, Close, Drain}
 use Rattle.lr_model.specs.declared.entry.Entry.{Entry}
 use Rattle.lr_model.specs.Answer.{post_of}
-use Rattle.lr_model.specs.Board.{Board, Connection, is_open, has_channel, has_room, with_item, dropped_connection, connection_after_post, board_after_post, with_connection}
+use Rattle.lr_model.specs.Board.{Board, Connection, is_open, has_channel, has_room, with_item, dropped_connection, new_connection, closed_connection, connection_after_post, board_after_post, with_connection}
 use Rattle.lr_model.specs.History.{State, step, after, board_by, IsAllowed, IsLegal}
 use Rattle.lr_server.proofs.Serves.{least_is_free}
 use Rattle.lr_turnstile.specs.Views.{entries_by}
-use Rattle.lr_service.specs.Closes.{MayClose, ClosesOwn}
+use Rattle.lr_service.specs.Closes.{MayClose, ClosesOwn, has_open_by, has_open_after}
 
 told_opener : (post : Post) (connection : Connection)
     → (connection_after_post post connection).opener ≡ connection.opener
@@ -77,17 +77,6 @@ step-opener state entry Close conn caller may apart opened =
 some_one : (a b : ℕ) → Some a ≡ Some b → a ≡ b
 some_one a b e = cc
 
--- the first of these entries is by another caller, and so are the rest
-not_first : (caller : ℕ) (entry : Entry) (entries : List Entry)
-    → entries_by caller (entry ∷ entries) ≡ [] → (entry.caller ≢ caller) × (entries_by caller entries ≡ [])
-not_first caller entry entries none = by (entry.caller == caller) refl none
-  where
-    by : (b : Bool) → (entry.caller == caller) ≡ b
-        → cond b (entry ∷ entries_by caller entries) (entries_by caller entries) ≡ []
-        → (entry.caller ≢ caller) × (entries_by caller entries ≡ [])
-    by true e is = absurd (cc)
-    by false e is = (λ same. true≢false (sym (eq-eqb entry.caller caller same) ∙ e), is)
-
 -- a close by another caller is of another connection
 apart_from_own : (state : State) (entry : Entry) (act : Act) (conn caller : ℕ)
     → MayClose state entry act → (state.board conn).opener ≡ Some caller
@@ -111,17 +100,73 @@ apart_from_first state entry (Unsubscribe channel) may is = absurd (cc)
 apart_from_first state entry Open may is = absurd (cc)
 apart_from_first state entry (Drain most) may is = absurd (cc)
 
--- a connection stays its caller's while the caller does nothing
-pub own_stays : (state : State) (entries : List Entry) (conn caller : ℕ)
-    → IsLegal state entries → ClosesOwn state entries → entries_by caller entries ≡ []
-    → (state.board conn).opener ≡ Some caller
+-- an entry of the caller's own opens it, closes it or keeps it
+own_step : (state : State) (entry : Entry) (act : Act) (conn caller : ℕ) (before : Bool)
+    → IsAllowed state entry.conn act → entry.caller ≡ caller
+    → (before ≡ true → (state.board conn).opener ≡ Some caller)
+    → has_open_by conn before entry act ≡ true
+    → (board_by state entry act conn).opener ≡ Some caller
+own_step state entry Open conn caller before may own had has = by (entry.conn == conn) has
+  where
+    by : (b : Bool) → (if b then true else before) ≡ true
+        → (if b then new_connection entry.caller else state.board conn).opener ≡ Some caller
+    by true is = ap Some own
+    by false is = had is
+own_step state entry Close conn caller before may own had has = by (entry.conn == conn) has
+  where
+    by : (b : Bool) → (if b then false else before) ≡ true
+        → (if b then closed_connection else state.board conn).opener ≡ Some caller
+    by true is = absurd (false≢true is)
+    by false is = had is
+own_step state entry (Call op) conn caller before may own had has =
+    step-opener state entry (Call op) conn caller may (λ is. absurd (cc)) (had has)
+own_step state entry (Subscribe channel) conn caller before may own had has =
+    step-opener state entry (Subscribe channel) conn caller may (λ is. absurd (cc)) (had has)
+own_step state entry (Unsubscribe channel) conn caller before may own had has =
+    step-opener state entry (Unsubscribe channel) conn caller may (λ is. absurd (cc)) (had has)
+own_step state entry (Drain most) conn caller before may own had has =
+    step-opener state entry (Drain most) conn caller may (λ is. absurd (cc)) (had has)
+
+-- a connection's opener is this caller
+abbrev IsOpener : State → ℕ → ℕ → Type 0
+IsOpener state conn caller = (state.board conn).opener ≡ Some caller
+
+-- whoever has opened a connection, and not closed it since, is its opener
+pub own_opener : (state : State) (entries : List Entry) (conn caller : ℕ) (before : Bool)
+    → IsLegal state entries → ClosesOwn state entries
+    → (before ≡ true → (state.board conn).opener ≡ Some caller)
+    → has_open_after conn before (entries_by caller entries) ≡ true
     → ((after state entries).board conn).opener ≡ Some caller
-own_stays state [] conn caller legal closes none opened = opened
-own_stays state (entry ∷ entries) conn caller legal closes none opened =
-    let n = not_first caller entry entries none in
-    own_stays (step state entry) entries conn caller legal.1 closes.1 n.1
-    (step-opener state entry entry.act conn caller legal.0.allowed
-    (apart_from_own state entry entry.act conn caller closes.0 opened n.0) opened)
+own_opener state [] conn caller before legal closes had has = had has
+own_opener state (entry ∷ entries) conn caller before legal closes had has =
+    by (entry.caller == caller) refl
+        (λ own is. own_opener (step state entry) entries conn caller
+            (has_open_by conn before entry entry.act) legal.1 closes.1
+            (own_step state entry entry.act conn caller before legal.0.allowed own had) is)
+        (λ other is. own_opener (step state entry) entries conn caller before legal.1 closes.1
+            (λ was. step-opener state entry entry.act conn caller legal.0.allowed
+                (apart_from_own state entry entry.act conn caller closes.0 (had was) other)
+                (had was)) is)
+        has
+  where
+    by : (b : Bool) → (entry.caller == caller) ≡ b
+        → (entry.caller ≡ caller → has_open_after conn (has_open_by conn before entry entry.act)
+            (entries_by caller entries) ≡ true → IsOpener (after (step state entry) entries) conn caller)
+        → (entry.caller ≢ caller
+            → has_open_after conn before (entries_by caller entries) ≡ true → IsOpener (after (step state entry) entries) conn caller)
+        → has_open_after conn before
+            (cond b (entry ∷ entries_by caller entries) (entries_by caller entries)) ≡ true
+        → IsOpener (after (step state entry) entries) conn caller
+    by true e own other is = own (eqb-true entry.caller caller e) is
+    by false e own other is =
+        other (λ same. true≢false (sym (eq-eqb entry.caller caller same) ∙ e)) is
+
+pub has_open-push : (conn : ℕ) (before : Bool) (entries : List Entry) (entry : Entry)
+    → has_open_after conn before (entries ++ entry ∷ [])
+    ≡ has_open_by conn (has_open_after conn before entries) entry entry.act
+has_open-push conn before [] entry = refl
+has_open-push conn before (x ∷ xs) entry =
+    has_open-push conn (has_open_by conn before x x.act) xs entry
 
 -- connection 0 stays open
 pub first_stays : (state : State) (entries : List Entry) → IsLegal state entries
@@ -133,23 +178,7 @@ first_stays state (entry ∷ entries) legal closes opened =
     (step-opener state entry entry.act 0 0 legal.0.allowed
     (apart_from_first state entry entry.act closes.0) opened)
 
--- Histories in two parts.
-
-pub after-append : (state : State) (xs ys : List Entry)
-    → after state (xs ++ ys) ≡ after (after state xs) ys
-after-append state [] ys = refl
-after-append state (x ∷ xs) ys = after-append (step state x) xs ys
-
-pub IsLegal-right : (state : State) (xs ys : List Entry) → IsLegal state (xs ++ ys)
-    → IsLegal (after state xs) ys
-IsLegal-right state [] ys legal = legal
-IsLegal-right state (x ∷ xs) ys legal = IsLegal-right (step state x) xs ys legal.1
-
-pub ClosesOwn-right : (state : State) (xs ys : List Entry) → ClosesOwn state (xs ++ ys)
-    → ClosesOwn (after state xs) ys
-ClosesOwn-right state [] ys closes = closes
-ClosesOwn-right state (x ∷ xs) ys closes = ClosesOwn-right (step state x) xs ys closes.1
-
+-- a history goes on with an entry that may close
 pub ClosesOwn-push : (state : State) (entries : List Entry) (entry : Entry)
     → ClosesOwn state entries → MayClose (after state entries) entry entry.act
     → ClosesOwn state (entries ++ entry ∷ [])

@@ -1,5 +1,5 @@
 -- What the server's steps come to for the pass that made them.
-use Rattle.std.proofs.Common.{◌≡◌, ◌≢◌, ◌↔◌, ℕ, Bool, true, false, if◌then◌else◌, List, [], ◌∷◌, Option, Some, None, refl, sym, ap, ◌∙◌, subst, eq-eqb}
+use Rattle.std.proofs.Common.{◌≡◌, ◌≢◌, ◌↔◌, ℕ, Bool, true, false, if◌then◌else◌, List, [], ◌∷◌, Option, Some, None, refl, sym, ap, ◌∙◌, subst, eq-eqb, inl, inr}
 use Rattle.std.specs.Prelude.{Result, Ok, Err, IfOk, OnOk, OnErr, IsSome, IsTrue}
 use Rattle.std.specs.Option.{ForSome}
 use Rattle.lr_commands.specs.declared.request.Request.{Request}
@@ -12,17 +12,21 @@ use Rattle.lr_model.specs.declared.entry.Act.TheVariants as acts
 use Rattle.lr_model.specs.declared.entry.Entry.{Entry}
 use Rattle.lr_model.specs.Board.{free_numbers, new_connection}
 use Rattle.lr_model.specs.History.{State, Opens, result_of, after, state_at_start}
-use Rattle.lr_model.proofs.Histories.{after-push}
 use Rattle.lr_server.specs.declared.answered.Answered.{Answered}
 use Rattle.lr_server.specs.declared.fault.StepFault.{StepFault}
 use Rattle.lr_server.specs.declared.fault.StepFault.TheVariants.{TooManyConnections, HistoryFull, Dropped}
 use Rattle.lr_server.specs.Server.{ServerValue, state_of, connection_of, entry_of, act_of, is_only_subscribed, takes_some, entry_made, drain_made, result_made, result_in, post_in, reached_of, dropped_of, told_by, IsTold, IsHandedOut, fault_of, drain_fault, act_on_one}
 use Rattle.lr_turnstile.specs.declared.view.View.{View}
-use Rattle.lr_turnstile.specs.Views.{Grew, IsSame, looked, took}
-use Rattle.lr_service.specs.Closes.{MayClose, IsOwnClose}
+use Rattle.lr_service.specs.declared.fault.TryFault.{TryFault}
+use Rattle.lr_service.specs.declared.fault.TryFault.TheVariants as tries
+use Rattle.lr_turnstile.specs.Passes.{WasBusy}
+use Rattle.lr_turnstile.specs.Views.{Grew, HasOwn, IsSame, looked, took}
+use Rattle.lr_service.specs.Closes.{MayClose, IsOwnClose, has_open}
 use Rattle.lr_service.specs.Served.{server_at, IsServed}
-use Rattle.lr_service.specs.Passes.{IsOwnConnection, CanClose}
-use Rattle.lr_service.specs.Calls.{HadTurn, IsServedTo, IsOpened, IsDrained, IsClosed}
+use Rattle.lr_service.specs.Passes.{IsOwnConnection, CanClose, KeepsConnections}
+use Rattle.lr_service.specs.Calls.{HadTurn, IsServedTo, IsTried, IsOpened, IsDrained, IsClosed}
+use Rattle.lr_service.proofs.Openers.{has_open-push}
+use Rattle.lr_service.proofs.Connections.{own_is, keeps_by, keeps_others}
 use Rattle.lr_service.proofs.HadTurns.{made_by, opened_by, had_by, had_opened, had_turn_on, same_if}
 
 -- What is so of each entry that a step can make.
@@ -229,28 +233,24 @@ opened_here u v now server reading caller result found served its same mine grew
       not_dropped = here.not_dropped;
     }
 
--- whose connection it then is
+-- whose connection it then is, beside those that were the pass's own
 pub opened_own : (u now : View) (reading : ℕ) (result : Result ℕ StepFault)
     → IsOpened u reading result now → IfOk result (IsOwnConnection now)
 opened_own u now reading (Err fault) is = tt
 opened_own u now reading (Ok conn) is =
-    let history : List Entry = is.history in
-    let entry : Entry = entry_of (server_at history) reading u.caller conn acts.Open in
-    let before : State = after (state_at_start 0) history in
-    ap (λ (l : List Entry). ((after (state_at_start 0) l).board conn).opener) is.ok.seen
-    ∙ (ap (λ (s : State). (s.board conn).opener) (after-push (state_at_start 0) history entry)
-    ∙ (ap (λ (b : Bool). (if b then new_connection u.caller else before.board conn).opener)
-    (eq-eqb conn conn refl)
-    ∙ ap Some (sym is.ok.same.caller)))
+    let entry : Entry = entry_of (server_at is.history) reading u.caller conn acts.Open in
+    ap (λ (l : List Entry). has_open conn l) is.ok.mine
+    ∙ (has_open-push conn false u.mine entry
+    ∙ ap (λ (b : Bool). if b then true else has_open conn u.mine) (eq-eqb conn conn refl))
 
 -- A close.
 
-pub may_close : (v : View) (server : ServerValue) (reading caller conn : ℕ)
+pub may_close : (v : View) (server : ServerValue) (reading caller conn : ℕ) → HasOwn v
     → IsServed server v.seen → caller ≡ v.caller → CanClose v conn
     → IsOwnClose (after (state_at_start 0) v.seen)
-    (entry_of server reading caller conn acts.Close)
-may_close v server reading caller conn served its can = record {
-  own = can.own ∙ ap Some (sym its);
+        (entry_of server reading caller conn acts.Close)
+may_close v server reading caller conn known served its can = record {
+  own = own_is v server conn known served can.own ∙ ap Some (sym its);
   not_first = can.not_first;
 }
 
@@ -275,3 +275,64 @@ pub entered_same : (u v : View) (word : ℕ) → v ≡ took (looked u v.seen wor
     → IsSame u v
 entered_same u v word is = same_if u v (took (looked u v.seen word) v.seen word) is refl refl refl
     refl refl refl
+
+-- What stays the pass's own.
+
+abbrev any_entry : Entry
+any_entry = record { moment = 0; caller = 0; conn = 0; act = acts.Close }
+
+not_close : (request : Request) (act : Act) → act_of request ≡ Some act → act ≢ acts.Close
+not_close request act is close =
+    (asked_may request acts.Close (is ∙ ap Some close) (state_at_start 0) any_entry).not_first refl
+
+abbrev IsKept : Entry → Type 0
+IsKept entry = entry.act ≢ acts.Close
+
+pub served_keeps : (u now : View) (reading conn : ℕ) (request : Request) (act : Act)
+    (result : Result Answered StepFault) → act_of request ≡ Some act
+    → IsServedTo u reading conn act result now → KeepsConnections u now
+served_keeps u now reading conn request act (Ok answered) asked s =
+    let server : ServerValue = server_at s.history in
+    keeps_by u now (entry_made server reading u.caller conn act) s.ok.mine
+        (for_if IsKept (is_only_subscribed act (connection_of server conn))
+            (entry_of server reading u.caller conn act) (not_close request act asked))
+served_keeps u now reading conn request act (Err fault) asked s =
+    keeps_by u now None s.err.mine (for_none IsKept)
+
+busy_keeps : (u now : View) (word : ℕ) → WasBusy u word now → KeepsConnections u now
+busy_keeps u now word (inl b) =
+    keeps_by u now None (ap (λ z. z.mine) b.look.view) (for_none IsKept)
+busy_keeps u now word (inr b) = keeps_by u now None (ap (λ z. z.mine) b.view) (for_none IsKept)
+
+pub tried_keeps : (u now : View) (reading conn : ℕ) (request : Request) (act : Act)
+    (result : Result Answered TryFault) → act_of request ≡ Some act
+    → IsTried u reading conn act result now → KeepsConnections u now
+tried_keeps u now reading conn request act (Ok answered) asked s =
+    served_keeps u now reading conn request act (Ok answered) asked s
+tried_keeps u now reading conn request act (Err (tries.Step fault)) asked s =
+    served_keeps u now reading conn request act (Err fault) asked s
+tried_keeps u now reading conn request act (Err (tries.Busy word)) asked s =
+    busy_keeps u now word s
+
+pub drained_keeps : (u now : View) (reading conn most : ℕ) (result : Result (List Push) StepFault)
+    → IsDrained u reading conn most result now → KeepsConnections u now
+drained_keeps u now reading conn most (Ok items) s =
+    let server : ServerValue = server_at s.history in
+    keeps_by u now (drain_made server reading u.caller conn most) s.ok.mine
+        (for_then IsKept (takes_some most (connection_of server conn))
+            (entry_of server reading u.caller conn (acts.Drain most)) (λ is. absurd (cc)))
+drained_keeps u now reading conn most (Err fault) s =
+    keeps_by u now None s.err.mine (for_none IsKept)
+
+pub opened_keeps : (u now : View) (reading : ℕ) (result : Result ℕ StepFault)
+    → IsOpened u reading result now → KeepsConnections u now
+opened_keeps u now reading (Ok conn) s =
+    let entry : Entry = entry_of (server_at s.history) reading u.caller conn acts.Open in
+    keeps_by u now (Some entry) s.ok.mine (for_one IsKept entry (λ is. absurd (cc)))
+opened_keeps u now reading (Err fault) s = keeps_by u now None s.err.mine (for_none IsKept)
+
+pub closed_keeps : (u now : View) (reading conn : ℕ) → IsClosed u reading conn now
+    → (other : ℕ) → other ≢ conn → IsOwnConnection u other → IsOwnConnection now other
+closed_keeps u now reading conn s =
+    keeps_others u now (entry_of (server_at s.history) reading u.caller conn acts.Close) conn refl
+        refl s.made.mine

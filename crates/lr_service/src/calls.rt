@@ -3,7 +3,7 @@ ghost use Rattle.lr_model.specs.declared.entry.Act.{Act};
 ghost use Rattle.lr_turnstile.specs.Views.{IsAlone, IsSame};
 ghost use Rattle.lr_turnstile.specs.Passes.{view, IsSamePass, HasNoTurn};
 ghost use Rattle.lr_server.specs.Server.{act_of};
-ghost use Rattle.lr_service.specs.Passes.{IsPassOf, IsOwnConnection, CanUse, CanClose};
+ghost use Rattle.lr_service.specs.Passes.{IsPassOf, IsOwnConnection, CanUse, CanClose, KeepsConnections};
 ghost use Rattle.lr_service.specs.Calls.{IsServedTo, IsTried, IsOpened, IsDrained, IsClosed};
 
 use crate::fault::TryFault;
@@ -37,6 +37,7 @@ impl Service {
         ensures same { IsSame (view pass.old) (view pass.new) }
         ensures served { (act : Act) → act_of request.now ≡ Some act
             → IsServedTo (view pass.old) reading conn act result (view pass.new) }
+        ensures keeps { KeepsConnections (view pass.old) (view pass.new) }
     {
         let served = self.gate.enter(rt, pass);
         self.serve(pass, served, reading, conn, request)
@@ -61,6 +62,7 @@ impl Service {
         ensures same { IsSame (view pass.old) (view pass.new) }
         ensures tried { (act : Act) → act_of request.now ≡ Some act
             → IsTried (view pass.old) reading conn act result (view pass.new) }
+        ensures keeps { KeepsConnections (view pass.old) (view pass.new) }
         ensures alone { IsAlone (view pass.old) → (word : ℕ) → result ≢ Err (TryFault.Busy word) }
     {
         let served = match self.gate.try_enter(pass) {
@@ -87,6 +89,7 @@ impl Service {
         ensures same { IsSame (view pass.old) (view pass.new) }
         ensures opened { IsOpened (view pass.old) reading result (view pass.new) }
         ensures own { IfOk result (IsOwnConnection (view pass.new)) }
+        ensures keeps { KeepsConnections (view pass.old) (view pass.new) }
     {
         let Served { mut state } = self.gate.enter(rt, pass);
         let before = state.history().len();
@@ -113,6 +116,7 @@ impl Service {
         ensures free { HasNoTurn pass.new }
         ensures same { IsSame (view pass.old) (view pass.new) }
         ensures drained { IsDrained (view pass.old) reading conn most result (view pass.new) }
+        ensures keeps { KeepsConnections (view pass.old) (view pass.new) }
     {
         let Served { mut state } = self.gate.enter(rt, pass);
         let before = state.history().len();
@@ -131,6 +135,8 @@ impl Service {
         ensures free { HasNoTurn pass.new }
         ensures same { IsSame (view pass.old) (view pass.new) }
         ensures closed { IsClosed (view pass.old) reading conn (view pass.new) }
+        ensures keeps { (other : ℕ) → other ≢ conn
+            → IsOwnConnection (view pass.old) other → IsOwnConnection (view pass.new) other }
     {
         let Served { mut state } = self.gate.enter(rt, pass);
         let before = state.history().len();

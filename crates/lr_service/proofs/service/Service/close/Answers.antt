@@ -10,17 +10,15 @@ use Rattle.lr_service.specs.Served.{IsServed}
 use Rattle.lr_service.specs.Calls.{entries_with}
 use Rattle.lr_service.proofs.Connections.{still_closable, closable_open}
 use Rattle.lr_service.proofs.HadTurns.{found_made, served_with}
-use Rattle.lr_service.proofs.Stepping.{for_found, for_one, may_close, closed_here}
+use Rattle.lr_service.proofs.Stepping.{for_found, for_one, may_close, closed_here, closed_keeps}
 use Rattle.lr_service.proofs.service.Service.close.Goals as goal
 
 pub close-requires : goal.close-requires
 close-requires g c =
     let w = c.enter-state.ensures.entered in
     let v = view c.enter-state.new.pass in
-    let old = c.enter-state.result.state in
-    closable_open v old c.args.conn w.it_stands.1
-    (still_closable (view c.args.pass.now) v old c.args.conn w.same.caller w.grew
-    w.it_stands.1 c.requires.conn)
+    closable_open v c.enter-state.result.state c.args.conn w.own w.it_stands.1
+        (still_closable (view c.args.pass.now) v c.args.conn w.mine c.requires.conn)
 
 pub leave-requires-clause-server : goal.leave-requires-clause-server
 leave-requires-clause-server g c =
@@ -39,9 +37,8 @@ leave-requires-clause-server g c =
     subst (λ o. IsServed c.close.new.self (entries_with v.seen o)) (sym found)
     (served_with old c.close.new.self v.seen made served is c.history-2.ensures.legal
     (for_one (λ entry. MayClose (after (state_at_start 0) v.seen) entry entry.act) (entry_of old c.args.reading c.caller.result c.args.conn acts.Close)
-    (may_close v old c.args.reading c.caller.result c.args.conn served c.caller.ensures
-    (still_closable (view c.args.pass.now) v old c.args.conn w.same.caller w.grew
-    served c.requires.conn))))
+    (may_close v old c.args.reading c.caller.result c.args.conn w.own served c.caller.ensures
+                    (still_closable (view c.args.pass.now) v c.args.conn w.mine c.requires.conn))))
 
 pub leave-requires-clause-caller : goal.leave-requires-clause-caller
 leave-requires-clause-caller g c =
@@ -77,3 +74,8 @@ returns-clause-closed g c =
     closed_here (view c.args.pass.now) v (view c.leave.new.pass) old c.args.reading
     c.caller.result c.args.conn c.get-made.result served c.caller.ensures w.same w.mine w.grew
     found c.leave.ensures.left
+
+pub returns-clause-keeps : goal.returns-clause-keeps
+returns-clause-keeps g c =
+    closed_keeps (view c.args.pass.now) (view c.leave.new.pass) c.args.reading c.args.conn
+        (returns-clause-closed g c)

@@ -9,17 +9,15 @@ use Rattle.lr_service.specs.Served.{IsServed}
 use Rattle.lr_service.specs.Calls.{entries_with}
 use Rattle.lr_service.proofs.Connections.{still_usable, usable_open}
 use Rattle.lr_service.proofs.HadTurns.{made_by, made_is, found_made, served_with}
-use Rattle.lr_service.proofs.Stepping.{for_found, for_drain, drained_here}
+use Rattle.lr_service.proofs.Stepping.{for_found, for_drain, drained_here, drained_keeps}
 use Rattle.lr_service.proofs.service.Service.drain.Goals as goal
 
 pub drain-result-requires : goal.drain-result-requires
 drain-result-requires g c =
     let w = c.enter-state.ensures.entered in
     let v = view c.enter-state.new.pass in
-    let old = c.enter-state.result.state in
-    usable_open v old c.args.conn w.it_stands.1
-    (still_usable (view c.args.pass.now) v old c.args.conn w.same.caller w.grew w.it_stands.1
-    c.requires.conn)
+    usable_open v c.enter-state.result.state c.args.conn w.own w.it_stands.1
+        (still_usable (view c.args.pass.now) v c.args.conn w.mine c.requires.conn)
 
 pub leave-requires-clause-server : goal.leave-requires-clause-server
 leave-requires-clause-server g c =
@@ -89,3 +87,8 @@ returns-clause-drained g c =
       not_too_many = s.not_too_many;
     })
     c.leave.ensures.left
+
+pub returns-clause-keeps : goal.returns-clause-keeps
+returns-clause-keeps g c =
+    drained_keeps (view c.args.pass.now) (view c.leave.new.pass) c.args.reading c.args.conn
+        c.args.most c.drain-result.result (returns-clause-drained g c)

@@ -9,7 +9,7 @@ use Rattle.lr_service.specs.Closes.{MayClose}
 use Rattle.lr_service.specs.Served.{IsServed}
 use Rattle.lr_service.specs.Calls.{entries_with}
 use Rattle.lr_service.proofs.HadTurns.{opened_by, opened_is, found_made, served_with}
-use Rattle.lr_service.proofs.Stepping.{for_found, for_opened, opened_here, opened_own}
+use Rattle.lr_service.proofs.Stepping.{for_found, for_opened, opened_here, opened_own, opened_keeps}
 use Rattle.lr_service.proofs.service.Service.open.Goals as goal
 
 pub leave-requires-clause-server : goal.leave-requires-clause-server
@@ -82,3 +82,8 @@ pub returns-clause-own : goal.returns-clause-own
 returns-clause-own g c =
     opened_own (view c.args.pass.now) (view c.leave.new.pass) c.args.reading c.open-result.result
     (returns-clause-opened g c)
+
+pub returns-clause-keeps : goal.returns-clause-keeps
+returns-clause-keeps g c =
+    opened_keeps (view c.args.pass.now) (view c.leave.new.pass) c.args.reading c.open-result.result
+        (returns-clause-opened g c)
