@@ -28,14 +28,14 @@ pub own_is : (view : View) (server : ServerValue) (conn : ℕ) → HasOwn view
     → ((after start view.seen).board conn).opener ≡ Some view.caller
 own_is view server conn known served own =
     own_opener start view.seen conn view.caller false served.legal served.closes
-        (λ is. absurd (false≢true is)) (ap (λ l. has_open conn l) known ∙ own)
+    (λ is. absurd (false≢true is)) (ap (λ l. has_open conn l) known ∙ own)
 
 own_open : (view : View) (server : ServerValue) (conn : ℕ) → HasOwn view
     → IsServed server view.seen → IsOwnConnection view conn
     → IsTrue (is_open (connection_of server conn))
 own_open view server conn known served own =
     subst (λ (s : ServerValue). IsTrue (is_open (connection_of s conn))) (sym served.is)
-        (ap is_some (own_is view server conn known served own))
+    (ap is_some (own_is view server conn known served own))
 
 -- what it can use is open
 pub usable_open : (view : View) (server : ServerValue) (conn : ℕ) → HasOwn view
@@ -43,8 +43,8 @@ pub usable_open : (view : View) (server : ServerValue) (conn : ℕ) → HasOwn v
 usable_open view server conn known served (inl zero) =
     let first = first_stays start view.seen served.legal served.closes refl in
     subst (λ (s : ServerValue). IsTrue (is_open (connection_of s conn))) (sym served.is)
-        (subst (λ c. IsTrue (is_open (connection_of (server_at view.seen) c))) (sym zero)
-            (ap is_some first))
+    (subst (λ c. IsTrue (is_open (connection_of (server_at view.seen) c))) (sym zero)
+    (ap is_some first))
 usable_open view server conn known served (inr own) = own_open view server conn known served own
 
 pub closable_open : (view : View) (server : ServerValue) (conn : ℕ) → HasOwn view
@@ -99,5 +99,5 @@ keeps_others before now entry conn close at is other apart own =
     ∙ (has_open-push other false before.mine entry
     ∙ (ap (λ (a : Act). has_open_by other (has_open other before.mine) entry a) close
     ∙ (ap (λ (b : Bool). if b then false else has_open other before.mine)
-        (ne_eqb entry.conn other (λ same. apart (sym same ∙ at)))
+    (ne_eqb entry.conn other (λ same. apart (sym same ∙ at)))
     ∙ own)))

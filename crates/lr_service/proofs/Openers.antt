@@ -48,7 +48,7 @@ others_kept board at conn connection apart =
     ap (λ b. if b then connection else board conn) (ne_eqb at conn apart)
 
 -- a number that can be opened isn't that of an open connection
-apart_if_free : (board : Board) (at conn caller : ℕ) → is_open (board at) ≡ false
+pub apart_if_free : (board : Board) (at conn caller : ℕ) → is_open (board at) ≡ false
     → (board conn).opener ≡ Some caller → at ≢ conn
 apart_if_free board at conn caller free opened same = true≢false
     (sym (ap is_some opened) ∙ (ap (λ k. is_open (board k)) (sym same) ∙ free))
@@ -140,22 +140,22 @@ pub own_opener : (state : State) (entries : List Entry) (conn caller : ℕ) (bef
 own_opener state [] conn caller before legal closes had has = had has
 own_opener state (entry ∷ entries) conn caller before legal closes had has =
     by (entry.caller == caller) refl
-        (λ own is. own_opener (step state entry) entries conn caller
-            (has_open_by conn before entry entry.act) legal.1 closes.1
-            (own_step state entry entry.act conn caller before legal.0.allowed own had) is)
-        (λ other is. own_opener (step state entry) entries conn caller before legal.1 closes.1
-            (λ was. step-opener state entry entry.act conn caller legal.0.allowed
-                (apart_from_own state entry entry.act conn caller closes.0 (had was) other)
-                (had was)) is)
-        has
+    (λ own is. own_opener (step state entry) entries conn caller
+    (has_open_by conn before entry entry.act) legal.1 closes.1
+    (own_step state entry entry.act conn caller before legal.0.allowed own had) is)
+    (λ other is. own_opener (step state entry) entries conn caller before legal.1 closes.1
+    (λ was. step-opener state entry entry.act conn caller legal.0.allowed
+    (apart_from_own state entry entry.act conn caller closes.0 (had was) other)
+    (had was)) is)
+    has
   where
     by : (b : Bool) → (entry.caller == caller) ≡ b
         → (entry.caller ≡ caller → has_open_after conn (has_open_by conn before entry entry.act)
-            (entries_by caller entries) ≡ true → IsOpener (after (step state entry) entries) conn caller)
+        (entries_by caller entries) ≡ true → IsOpener (after (step state entry) entries) conn caller)
         → (entry.caller ≢ caller
-            → has_open_after conn before (entries_by caller entries) ≡ true → IsOpener (after (step state entry) entries) conn caller)
+        → has_open_after conn before (entries_by caller entries) ≡ true → IsOpener (after (step state entry) entries) conn caller)
         → has_open_after conn before
-            (cond b (entry ∷ entries_by caller entries) (entries_by caller entries)) ≡ true
+        (cond b (entry ∷ entries_by caller entries) (entries_by caller entries)) ≡ true
         → IsOpener (after (step state entry) entries) conn caller
     by true e own other is = own (eqb-true entry.caller caller e) is
     by false e own other is =
@@ -178,7 +178,13 @@ first_stays state (entry ∷ entries) legal closes opened =
     (step-opener state entry entry.act 0 0 legal.0.allowed
     (apart_from_first state entry entry.act closes.0) opened)
 
--- a history goes on with an entry that may close
+-- Histories that go on.
+
+pub IsLegal-right : (state : State) (xs ys : List Entry) → IsLegal state (xs ++ ys)
+    → IsLegal (after state xs) ys
+IsLegal-right state [] ys legal = legal
+IsLegal-right state (x ∷ xs) ys legal = IsLegal-right (step state x) xs ys legal.1
+
 pub ClosesOwn-push : (state : State) (entries : List Entry) (entry : Entry)
     → ClosesOwn state entries → MayClose (after state entries) entry entry.act
     → ClosesOwn state (entries ++ entry ∷ [])

@@ -1,5 +1,5 @@
 -- What the server's steps come to for the pass that made them.
-use Rattle.std.proofs.Common.{◌≡◌, ◌≢◌, ◌↔◌, ℕ, Bool, true, false, if◌then◌else◌, List, [], ◌∷◌, Option, Some, None, refl, sym, ap, ◌∙◌, subst, eq-eqb, inl, inr}
+use Rattle.std.proofs.Common.{◌≡◌, ◌≢◌, ◌↔◌, ℕ, Bool, true, false, if◌then◌else◌, List, [], ◌∷◌, Option, Some, None, refl, sym, ap, ◌∙◌, subst, eq-eqb, inl, inr, ◌++◌}
 use Rattle.std.specs.Prelude.{Result, Ok, Err, IfOk, OnOk, OnErr, IsSome, IsTrue}
 use Rattle.std.specs.Option.{ForSome}
 use Rattle.lr_commands.specs.declared.request.Request.{Request}
@@ -10,12 +10,12 @@ use Rattle.lr_names.specs.declared.post.Push.{Push}
 use Rattle.lr_model.specs.declared.entry.Act.{Act}
 use Rattle.lr_model.specs.declared.entry.Act.TheVariants as acts
 use Rattle.lr_model.specs.declared.entry.Entry.{Entry}
-use Rattle.lr_model.specs.Board.{free_numbers, new_connection}
-use Rattle.lr_model.specs.History.{State, Opens, result_of, after, state_at_start}
+use Rattle.lr_model.specs.Board.{free_numbers, new_connection, Board}
+use Rattle.lr_model.specs.History.{State, Opens, result_of, after, state_at_start, IsLegal}
 use Rattle.lr_server.specs.declared.answered.Answered.{Answered}
 use Rattle.lr_server.specs.declared.fault.StepFault.{StepFault}
 use Rattle.lr_server.specs.declared.fault.StepFault.TheVariants.{TooManyConnections, HistoryFull, Dropped}
-use Rattle.lr_server.specs.Server.{ServerValue, state_of, connection_of, entry_of, act_of, is_only_subscribed, takes_some, entry_made, drain_made, result_made, result_in, post_in, reached_of, dropped_of, told_by, IsTold, IsHandedOut, fault_of, drain_fault, act_on_one}
+use Rattle.lr_server.specs.Server.{ServerValue, state_of, connection_of, entry_of, act_of, is_only_subscribed, takes_some, entry_made, drain_made, result_made, result_in, post_in, reached_of, dropped_of, told_by, IsTold, IsHandedOut, fault_of, drain_fault, act_on_one, with_entry, with_made}
 use Rattle.lr_turnstile.specs.declared.view.View.{View}
 use Rattle.lr_service.specs.declared.fault.TryFault.{TryFault}
 use Rattle.lr_service.specs.declared.fault.TryFault.TheVariants as tries
@@ -25,7 +25,8 @@ use Rattle.lr_service.specs.Closes.{MayClose, IsOwnClose, has_open}
 use Rattle.lr_service.specs.Served.{server_at, IsServed}
 use Rattle.lr_service.specs.Passes.{IsOwnConnection, CanClose, KeepsConnections}
 use Rattle.lr_service.specs.Calls.{HadTurn, IsServedTo, IsTried, IsOpened, IsDrained, IsClosed}
-use Rattle.lr_service.proofs.Openers.{has_open-push}
+use Rattle.lr_service.proofs.Openers.{has_open-push, IsLegal-right, apart_if_free, first_stays}
+use Rattle.lr_server.proofs.Serves.{least_is_free}
 use Rattle.lr_service.proofs.Connections.{own_is, keeps_by, keeps_others}
 use Rattle.lr_service.proofs.HadTurns.{made_by, opened_by, had_by, had_opened, had_turn_on, same_if}
 
@@ -243,12 +244,30 @@ opened_own u now reading (Ok conn) is =
     ∙ (has_open-push conn false u.mine entry
     ∙ ap (λ (b : Bool). if b then true else has_open conn u.mine) (eq-eqb conn conn refl))
 
+-- it isn't connection 0, which is always open
+pub opened_not_first : (v : View) (old new : ServerValue) (reading caller : ℕ)
+    (result : Result ℕ StepFault) → IsServed old v.seen
+    → new ≡ with_made old (opened_by result (λ conn. entry_of old reading caller conn acts.Open))
+    → IsLegal (state_at_start new.last) new.entries → IfOk result (λ conn. conn ≢ 0)
+opened_not_first v old new reading caller (Err fault) served is legal = tt
+opened_not_first v old new reading caller (Ok conn) served is legal =
+    let start : State = state_at_start 0 in
+    let entry : Entry = entry_of old reading caller conn acts.Open in
+    let board : Board = (after start v.seen).board in
+    let now : new ≡ server_at (v.seen ++ entry ∷ []) =
+    is ∙ ap (λ (s : ServerValue). with_entry s entry) served.is in
+    let longer : IsLegal start (v.seen ++ entry ∷ []) =
+    subst (λ (s : ServerValue). IsLegal (state_at_start s.last) s.entries) now legal in
+    let may = IsLegal-right start v.seen (entry ∷ []) longer in
+    apart_if_free board conn 0 0 (least_is_free board conn may.0.allowed.free).1
+    (first_stays start v.seen served.legal served.closes refl)
+
 -- A close.
 
 pub may_close : (v : View) (server : ServerValue) (reading caller conn : ℕ) → HasOwn v
     → IsServed server v.seen → caller ≡ v.caller → CanClose v conn
     → IsOwnClose (after (state_at_start 0) v.seen)
-        (entry_of server reading caller conn acts.Close)
+    (entry_of server reading caller conn acts.Close)
 may_close v server reading caller conn known served its can = record {
   own = own_is v server conn known served can.own ∙ ap Some (sym its);
   not_first = can.not_first;
@@ -294,8 +313,8 @@ pub served_keeps : (u now : View) (reading conn : ℕ) (request : Request) (act 
 served_keeps u now reading conn request act (Ok answered) asked s =
     let server : ServerValue = server_at s.history in
     keeps_by u now (entry_made server reading u.caller conn act) s.ok.mine
-        (for_if IsKept (is_only_subscribed act (connection_of server conn))
-            (entry_of server reading u.caller conn act) (not_close request act asked))
+    (for_if IsKept (is_only_subscribed act (connection_of server conn))
+    (entry_of server reading u.caller conn act) (not_close request act asked))
 served_keeps u now reading conn request act (Err fault) asked s =
     keeps_by u now None s.err.mine (for_none IsKept)
 
@@ -319,8 +338,8 @@ pub drained_keeps : (u now : View) (reading conn most : ℕ) (result : Result (L
 drained_keeps u now reading conn most (Ok items) s =
     let server : ServerValue = server_at s.history in
     keeps_by u now (drain_made server reading u.caller conn most) s.ok.mine
-        (for_then IsKept (takes_some most (connection_of server conn))
-            (entry_of server reading u.caller conn (acts.Drain most)) (λ is. absurd (cc)))
+    (for_then IsKept (takes_some most (connection_of server conn))
+    (entry_of server reading u.caller conn (acts.Drain most)) (λ is. absurd (cc)))
 drained_keeps u now reading conn most (Err fault) s =
     keeps_by u now None s.err.mine (for_none IsKept)
 
@@ -335,4 +354,4 @@ pub closed_keeps : (u now : View) (reading conn : ℕ) → IsClosed u reading co
     → (other : ℕ) → other ≢ conn → IsOwnConnection u other → IsOwnConnection now other
 closed_keeps u now reading conn s =
     keeps_others u now (entry_of (server_at s.history) reading u.caller conn acts.Close) conn refl
-        refl s.made.mine
+    refl s.made.mine

@@ -89,6 +89,7 @@ impl Service {
         ensures same { IsSame (view pass.old) (view pass.new) }
         ensures opened { IsOpened (view pass.old) reading result (view pass.new) }
         ensures own { IfOk result (IsOwnConnection (view pass.new)) }
+        ensures not_first { IfOk result (λ conn. conn ≢ 0) }
         ensures keeps { KeepsConnections (view pass.old) (view pass.new) }
     {
         let Served { mut state } = self.gate.enter(rt, pass);

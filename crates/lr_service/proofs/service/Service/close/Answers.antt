@@ -18,7 +18,7 @@ close-requires g c =
     let w = c.enter-state.ensures.entered in
     let v = view c.enter-state.new.pass in
     closable_open v c.enter-state.result.state c.args.conn w.own w.it_stands.1
-        (still_closable (view c.args.pass.now) v c.args.conn w.mine c.requires.conn)
+    (still_closable (view c.args.pass.now) v c.args.conn w.mine c.requires.conn)
 
 pub leave-requires-clause-server : goal.leave-requires-clause-server
 leave-requires-clause-server g c =
@@ -38,7 +38,7 @@ leave-requires-clause-server g c =
     (served_with old c.close.new.self v.seen made served is c.history-2.ensures.legal
     (for_one (λ entry. MayClose (after (state_at_start 0) v.seen) entry entry.act) (entry_of old c.args.reading c.caller.result c.args.conn acts.Close)
     (may_close v old c.args.reading c.caller.result c.args.conn w.own served c.caller.ensures
-                    (still_closable (view c.args.pass.now) v c.args.conn w.mine c.requires.conn))))
+    (still_closable (view c.args.pass.now) v c.args.conn w.mine c.requires.conn))))
 
 pub leave-requires-clause-caller : goal.leave-requires-clause-caller
 leave-requires-clause-caller g c =
@@ -78,4 +78,4 @@ returns-clause-closed g c =
 pub returns-clause-keeps : goal.returns-clause-keeps
 returns-clause-keeps g c =
     closed_keeps (view c.args.pass.now) (view c.leave.new.pass) c.args.reading c.args.conn
-        (returns-clause-closed g c)
+    (returns-clause-closed g c)

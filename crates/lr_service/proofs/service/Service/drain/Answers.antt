@@ -17,7 +17,7 @@ drain-result-requires g c =
     let w = c.enter-state.ensures.entered in
     let v = view c.enter-state.new.pass in
     usable_open v c.enter-state.result.state c.args.conn w.own w.it_stands.1
-        (still_usable (view c.args.pass.now) v c.args.conn w.mine c.requires.conn)
+    (still_usable (view c.args.pass.now) v c.args.conn w.mine c.requires.conn)
 
 pub leave-requires-clause-server : goal.leave-requires-clause-server
 leave-requires-clause-server g c =
@@ -91,4 +91,4 @@ returns-clause-drained g c =
 pub returns-clause-keeps : goal.returns-clause-keeps
 returns-clause-keeps g c =
     drained_keeps (view c.args.pass.now) (view c.leave.new.pass) c.args.reading c.args.conn
-        c.args.most c.drain-result.result (returns-clause-drained g c)
+    c.args.most c.drain-result.result (returns-clause-drained g c)

@@ -9,7 +9,7 @@ use Rattle.lr_service.specs.Closes.{MayClose}
 use Rattle.lr_service.specs.Served.{IsServed}
 use Rattle.lr_service.specs.Calls.{entries_with}
 use Rattle.lr_service.proofs.HadTurns.{opened_by, opened_is, found_made, served_with}
-use Rattle.lr_service.proofs.Stepping.{for_found, for_opened, opened_here, opened_own, opened_keeps}
+use Rattle.lr_service.proofs.Stepping.{for_found, for_opened, opened_here, opened_own, opened_keeps, opened_not_first}
 use Rattle.lr_service.proofs.service.Service.open.Goals as goal
 
 pub leave-requires-clause-server : goal.leave-requires-clause-server
@@ -86,4 +86,17 @@ returns-clause-own g c =
 pub returns-clause-keeps : goal.returns-clause-keeps
 returns-clause-keeps g c =
     opened_keeps (view c.args.pass.now) (view c.leave.new.pass) c.args.reading c.open-result.result
-        (returns-clause-opened g c)
+    (returns-clause-opened g c)
+
+pub returns-clause-not_first : goal.returns-clause-not_first
+returns-clause-not_first g c =
+    let w = c.enter-state.ensures.entered in
+    let v = view c.enter-state.new.pass in
+    let old = c.enter-state.result.state in
+    let served = w.it_stands.1 in
+    let s = c.open-result.ensures in
+    let made : Option Entry = opened_by c.open-result.result (λ conn. entry_of old c.args.reading c.caller.result conn acts.Open) in
+    let is = opened_is old c.open-result.new.self c.open-result.result
+    (λ conn. entry_of old c.args.reading c.caller.result conn acts.Open) s.entry s.err in
+    opened_not_first v old c.open-result.new.self c.args.reading c.caller.result
+    c.open-result.result served is c.history-2.ensures.legal

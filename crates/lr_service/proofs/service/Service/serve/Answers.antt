@@ -16,7 +16,7 @@ use Rattle.lr_service.proofs.service.Service.serve.Goals as goal
 pub step-result-requires-clause-open : goal.step-result-requires-clause-open
 step-result-requires-clause-open c =
     usable_open (view c.args.pass.now) c.args.served.state c.args.conn c.requires.own
-        c.requires.server c.requires.conn
+    c.requires.server c.requires.conn
 
 pub leave-requires-clause-server : goal.leave-requires-clause-server
 leave-requires-clause-server c =
