@@ -10,7 +10,7 @@ use Rattle.lr_names.specs.declared.post.Push.{Push}
 use Rattle.lr_model.specs.declared.entry.Act.{Act}
 use Rattle.lr_model.specs.declared.entry.Act.TheVariants as acts
 use Rattle.lr_model.specs.declared.entry.Entry.{Entry}
-use Rattle.lr_model.specs.Board.{free_numbers, new_connection, Board}
+use Rattle.lr_model.specs.Board.{free_numbers, Board}
 use Rattle.lr_model.specs.History.{State, Opens, result_of, after, state_at_start, IsLegal}
 use Rattle.lr_server.specs.declared.answered.Answered.{Answered}
 use Rattle.lr_server.specs.declared.fault.StepFault.{StepFault}

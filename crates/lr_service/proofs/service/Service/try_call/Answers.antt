@@ -1,4 +1,4 @@
-use Rattle.std.proofs.Common.{◌≡◌, sym, ap, subst, Ok, Err}
+use Rattle.std.proofs.Common.{ap, subst, Ok, Err}
 use Rattle.lr_service.specs.declared.fault.TryFault.TheVariants as tries
 use Rattle.lr_server.specs.Server.{act_of}
 use Rattle.lr_turnstile.specs.Passes.{view}
