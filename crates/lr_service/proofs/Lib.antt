@@ -1,0 +1,4 @@
+pub mod Openers
+pub mod Connections
+pub mod HadTurns
+pub mod Stepping

@@ -1,0 +1,25 @@
+use Rattle.lr_server.specs.Server.{act_of}
+use Rattle.lr_turnstile.specs.Passes.{view}
+use Rattle.lr_service.proofs.Connections.{still_usable}
+use Rattle.lr_service.proofs.HadTurns.{served_on}
+use Rattle.lr_service.proofs.Stepping.{asked_act, served_keeps}
+use Rattle.lr_service.proofs.service.Service.call.Goals as goal
+
+pub serve-requires-clause-conn : goal.serve-requires-clause-conn
+serve-requires-clause-conn g c =
+    still_usable (view c.args.pass.now) (view c.enter-served.new.pass) c.args.conn
+    c.enter-served.ensures.entered.mine c.requires.conn
+
+pub returns-clause-served : goal.returns-clause-served
+returns-clause-served g c act asked =
+    let w = c.enter-served.ensures.entered in
+    served_on (view c.args.pass.now) (view c.enter-served.new.pass) (view c.serve.new.pass)
+    c.args.reading c.args.conn act c.serve.result w.same w.mine w.grew
+    (c.serve.ensures.served act asked)
+
+pub returns-clause-keeps : goal.returns-clause-keeps
+returns-clause-keeps g c =
+    let asked = asked_act (act_of c.args.request.now) c.requires.request in
+    served_keeps (view c.args.pass.now) (view c.serve.new.pass) c.args.reading c.args.conn
+    c.args.request.now asked.0 c.serve.result asked.1
+    (returns-clause-served g c asked.0 asked.1)

@@ -1,0 +1,91 @@
+use Rattle.std.proofs.Common.{◌≡◌, length, Option, sym, ap, ◌∙◌, subst}
+use Rattle.std.specs.Prelude.{slice_get}
+use Rattle.lr_model.specs.declared.entry.Act.{Act}
+use Rattle.lr_model.specs.declared.entry.Entry.{Entry}
+use Rattle.lr_model.specs.History.{after, state_at_start}
+use Rattle.lr_turnstile.specs.Passes.{view}
+use Rattle.lr_server.specs.Server.{act_of, entry_made, state_of}
+use Rattle.lr_service.specs.Closes.{MayClose}
+use Rattle.lr_service.specs.Served.{IsServed}
+use Rattle.lr_service.specs.Calls.{entries_with}
+use Rattle.lr_service.proofs.Connections.{usable_open}
+use Rattle.lr_service.proofs.HadTurns.{made_by, made_is, found_made, served_with}
+use Rattle.lr_service.proofs.Stepping.{for_found, for_step, asked_act, asked_may, told_if, served_here}
+use Rattle.lr_service.proofs.service.Service.serve.Goals as goal
+
+pub step-result-requires-clause-open : goal.step-result-requires-clause-open
+step-result-requires-clause-open c =
+    usable_open (view c.args.pass.now) c.args.served.state c.args.conn c.requires.own
+    c.requires.server c.requires.conn
+
+pub leave-requires-clause-server : goal.leave-requires-clause-server
+leave-requires-clause-server c =
+    let asked = asked_act (act_of c.args.request.now) c.requires.request in
+    let act : Act = asked.0 in
+    let s = c.step-result.ensures in
+    let made : Option Entry =
+    made_by c.step-result.result
+    (entry_made c.args.served.state c.args.reading c.caller.result c.args.conn act) in
+    let is = made_is c.args.served.state c.step-result.new.self c.step-result.result
+    (entry_made c.args.served.state c.args.reading c.caller.result c.args.conn act)
+    (s.entry act asked.1) s.err in
+    let count = c.len-before.ensures.value ∙ ap length c.history.ensures.entries in
+    let at = c.get-made.ensures
+    ∙ ap (λ l. slice_get l c.len-before.result) c.history-2.ensures.entries in
+    let found = found_made c.args.served.state c.step-result.new.self
+    (view c.args.pass.now).seen made c.get-made.result c.len-before.result c.requires.server is
+    count at in
+    subst (λ o. IsServed c.step-result.new.self (entries_with (view c.args.pass.now).seen o))
+    (sym found)
+    (served_with c.args.served.state c.step-result.new.self (view c.args.pass.now).seen made
+    c.requires.server is c.history-2.ensures.legal
+    (for_step (λ entry. MayClose (after (state_at_start 0) (view c.args.pass.now).seen) entry
+    entry.act) c.step-result.result c.args.served.state c.args.reading c.caller.result
+    c.args.conn act (asked_may c.args.request.now act asked.1 _ _)))
+
+pub leave-requires-clause-caller : goal.leave-requires-clause-caller
+leave-requires-clause-caller c =
+    let asked = asked_act (act_of c.args.request.now) c.requires.request in
+    let act : Act = asked.0 in
+    let s = c.step-result.ensures in
+    let made : Option Entry =
+    made_by c.step-result.result
+    (entry_made c.args.served.state c.args.reading c.caller.result c.args.conn act) in
+    let is = made_is c.args.served.state c.step-result.new.self c.step-result.result
+    (entry_made c.args.served.state c.args.reading c.caller.result c.args.conn act)
+    (s.entry act asked.1) s.err in
+    let count = c.len-before.ensures.value ∙ ap length c.history.ensures.entries in
+    let at = c.get-made.ensures
+    ∙ ap (λ l. slice_get l c.len-before.result) c.history-2.ensures.entries in
+    let found = found_made c.args.served.state c.step-result.new.self
+    (view c.args.pass.now).seen made c.get-made.result c.len-before.result c.requires.server is
+    count at in
+    for_found (λ entry. entry.caller ≡ (view c.args.pass.now).caller) made c.get-made.result found
+    (for_step (λ entry. entry.caller ≡ (view c.args.pass.now).caller) c.step-result.result
+    c.args.served.state c.args.reading c.caller.result c.args.conn act c.caller.ensures)
+
+pub returns-clause-served : goal.returns-clause-served
+returns-clause-served c act asked =
+    let s = c.step-result.ensures in
+    let step : Option Entry =
+    entry_made c.args.served.state c.args.reading c.caller.result c.args.conn act in
+    let is = made_is c.args.served.state c.step-result.new.self c.step-result.result step
+    (s.entry act asked) s.err in
+    let count = c.len-before.ensures.value ∙ ap length c.history.ensures.entries in
+    let at = c.get-made.ensures
+    ∙ ap (λ l. slice_get l c.len-before.result) c.history-2.ensures.entries in
+    let found = found_made c.args.served.state c.step-result.new.self
+    (view c.args.pass.now).seen (made_by c.step-result.result step) c.get-made.result
+    c.len-before.result c.requires.server is count at in
+    served_here (view c.args.pass.now) (view c.leave.new.pass) c.args.served.state c.args.reading
+    c.caller.result c.args.conn act c.step-result.result c.get-made.result c.requires.server
+    c.caller.ensures
+    (record {
+      made = found;
+      told = told_if (state_of c.args.served.state) step c.step-result.result
+          (s.answer act asked) (s.post act asked) (s.reached act asked) (s.dropping act asked);
+      full = s.full act asked;
+      dropped = s.dropped act asked;
+      not_too_many = s.not_too_many;
+    })
+    c.leave.ensures.left

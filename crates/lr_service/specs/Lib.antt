@@ -1,0 +1,4 @@
+pub mod Closes
+pub mod Served
+pub mod Passes
+pub mod Calls
