@@ -1,0 +1,4 @@
+pub mod Race
+pub mod Passes
+pub mod Summary
+pub mod Ends
