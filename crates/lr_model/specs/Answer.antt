@@ -12,6 +12,7 @@ use Rattle.lr_model.specs.Table.{put}
 use Rattle.lr_model.specs.Outcome.{Outcome}
 use Rattle.lr_model.specs.Claim.{Concern, NoHold}
 use Rattle.lr_model.specs.Mutex.{lock_call, lock_concern}
+use Rattle.lr_model.specs.Fair.{FairLock, new_fair_lock, fair_call, fair_concern}
 use Rattle.lr_model.specs.ReadWrite.{ReadWriteLock, read_write_call, read_write_concern}
 use Rattle.lr_model.specs.Fenced.{FencedLock, new_fenced_lock, fenced_call, fenced_concern}
 use Rattle.lr_model.specs.Semaphore.{semaphore_call}
@@ -21,6 +22,7 @@ use Rattle.lr_model.specs.Countdown.{countdown_call}
 -- the objects by their names, a table for each kind
 pub record Objects : Type 0 where
   pub mutexes : List ℕ → Option Hold
+  pub fair_locks : List ℕ → FairLock
   pub read_write_locks : List ℕ → ReadWriteLock
   pub fenced_locks : List ℕ → FencedLock
   pub semaphores : List ℕ → Option ℕ
@@ -31,6 +33,7 @@ pub record Objects : Type 0 where
 abbrev pub no_objects : Objects
 no_objects = record {
   mutexes = λ name. None;
+  fair_locks = λ name. new_fair_lock;
   read_write_locks = λ name. [];
   fenced_locks = λ name. new_fenced_lock;
   semaphores = λ name. None;
@@ -60,6 +63,9 @@ abbrev pub answer_call : Objects → ℕ → List ℕ → Call → Answered
 answer_call objects moment name (calls.Lock call) =
     on_object objects.mutexes (λ table. record objects { mutexes = table }) name
     (lock_call name moment call)
+answer_call objects moment name (calls.Fair call) =
+    on_object objects.fair_locks (λ table. record objects { fair_locks = table }) name
+    (fair_call name moment call)
 answer_call objects moment name (calls.ReadWrite call) =
     on_object objects.read_write_locks (λ table. record objects { read_write_locks = table }) name
     (read_write_call name moment call)
@@ -82,6 +88,7 @@ answer objects moment op = answer_call objects moment op.name op.call
 -- what a call has to do with who holds its object: the objects of some kinds nobody holds
 abbrev pub concern_of : Call → Concern
 concern_of (calls.Lock call) = lock_concern call
+concern_of (calls.Fair call) = fair_concern call
 concern_of (calls.ReadWrite call) = read_write_concern call
 concern_of (calls.Fenced call) = fenced_concern call
 concern_of _ = NoHold

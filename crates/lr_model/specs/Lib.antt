@@ -4,6 +4,7 @@ pub mod Outcome
 pub mod Claim
 pub mod Hold
 pub mod Mutex
+pub mod Fair
 pub mod Fenced
 pub mod ReadWrite
 pub mod ReadWriteHolds

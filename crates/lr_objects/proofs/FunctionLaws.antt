@@ -8,6 +8,7 @@ use Rattle.lr_objects.specs.declared.kinds.Function.{Function}
 use Rattle.lr_objects.specs.declared.kinds.Function.TheVariants as kinds
 use Rattle.lr_objects.specs.declared.kinds.TheConstants.Function.{ALL}
 use Rattle.lr_objects.specs.declared.lock.LockFunction.TheVariants as lock
+use Rattle.lr_objects.specs.declared.fair.FairFunction.TheVariants as fair
 use Rattle.lr_objects.specs.declared.read_write.ReadWriteFunction.TheVariants as read_write
 use Rattle.lr_objects.specs.declared.fenced.FencedFunction.TheVariants as fenced
 use Rattle.lr_objects.specs.declared.semaphore.SemaphoreFunction.TheVariants as semaphore
@@ -23,6 +24,7 @@ HasWord function =
 -- each function has one: by computing, with a line for each kind
 has_word : (function : Function) → HasWord function
 has_word (kinds.Lock lock.Try) = (refl, refl, omega arith)
+has_word (kinds.Fair fair.Try) = (refl, refl, omega arith)
 has_word (kinds.ReadWrite read_write.Read) = (refl, refl, omega arith)
 has_word (kinds.Fenced fenced.Try) = (refl, refl, omega arith)
 has_word (kinds.Semaphore semaphore.Set) = (refl, refl, omega arith)

@@ -2,6 +2,7 @@ pub mod Amount
 pub mod Form
 pub mod LockCalls
 pub mod ReadWriteCalls
+pub mod FairCalls
 pub mod FencedCalls
 pub mod SemaphoreCalls
 pub mod PermitCalls

@@ -4,7 +4,7 @@ use Rattle.lr_objects.specs.declared.kinds.Function.{Function}
 use Rattle.lr_objects.specs.declared.kinds.Function.TheVariants.{Countdown}
 use Rattle.lr_objects.specs.declared.countdown.CountdownFunction.TheVariants as latch
 use Rattle.lr_objects.specs.declared.reply.Reply.{Reply}
-use Rattle.lr_objects.specs.declared.reply.Reply.TheVariants.{Granted, Busy, Kept, Freed, NotHeld, Renewed, Lost, TooDeep, BadLease, GrantedToken, Short, Set, AlreadySet, Count, Unknown, TooMany, TokensSpent}
+use Rattle.lr_objects.specs.declared.reply.Reply.TheVariants.{Granted, Busy, Kept, Freed, NotHeld, Renewed, Lost, TooDeep, BadLease, GrantedToken, Short, Set, AlreadySet, Count, Unknown, TooMany, TokensSpent, Left}
 
 -- whether the one who asked has to wait: where another has the object, where there are too few
 -- permits, and where a latch that is asked for its count isn't at 0
@@ -50,6 +50,7 @@ reply_word (Count count) = codes "count"
 reply_word Unknown = codes "unknown"
 reply_word TooMany = codes "too-many"
 reply_word TokensSpent = codes "tokens-spent"
+reply_word Left = codes "left"
 
 -- the number that a reply tells besides
 abbrev pub reply_number : Reply → Option ℕ

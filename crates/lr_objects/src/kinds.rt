@@ -6,6 +6,7 @@ ghost use Rattle.lr_objects.specs.Kinds.{form_of, call_of, call_kind, IsCallOfKi
 ghost use Rattle.lr_objects.specs.Want.{HasAmount};
 
 use crate::countdown::{CountdownCall, CountdownFunction};
+use crate::fair::{FairCall, FairFunction};
 use crate::fenced::{FencedCall, FencedFunction};
 use crate::form::Form;
 use crate::lock::{LockCall, LockFunction};
@@ -20,6 +21,8 @@ use lr_names::{Kind, Owner};
 pub enum Function {
     /// Of a reentrant lock.
     Lock(LockFunction),
+    /// Of a fair lock.
+    Fair(FairFunction),
     /// Of a read-write lock.
     ReadWrite(ReadWriteFunction),
     /// Of a fenced lock.
@@ -37,6 +40,8 @@ pub enum Function {
 pub enum Call {
     /// On a reentrant lock.
     Lock(LockCall),
+    /// On a fair lock.
+    Fair(FairCall),
     /// On a read-write lock.
     ReadWrite(ReadWriteCall),
     /// On a fenced lock.
@@ -51,11 +56,15 @@ pub enum Call {
 
 impl Function {
     /// All functions.
-    pub const ALL: [Function; 24] = [
+    pub const ALL: [Function; 28] = [
         Function::Lock(LockFunction::Try),
         Function::Lock(LockFunction::Unlock),
         Function::Lock(LockFunction::Renew),
         Function::Lock(LockFunction::Force),
+        Function::Fair(FairFunction::Try),
+        Function::Fair(FairFunction::Unlock),
+        Function::Fair(FairFunction::Leave),
+        Function::Fair(FairFunction::Renew),
         Function::ReadWrite(ReadWriteFunction::Read),
         Function::ReadWrite(ReadWriteFunction::Write),
         Function::ReadWrite(ReadWriteFunction::UnlockRead),
@@ -84,6 +93,7 @@ impl Function {
     {
         match self {
             Function::Lock(function) => function.form(),
+            Function::Fair(function) => function.form(),
             Function::ReadWrite(function) => function.form(),
             Function::Fenced(function) => function.form(),
             Function::Semaphore(function) => function.form(),
@@ -98,9 +108,9 @@ impl Function {
         requires { HasAmount (arguments_of self) want.now }
         ensures { result ≡ call_of self want.now owner.now lease queue }
     {
-        let _ = queue;
         match self {
             Function::Lock(function) => Call::Lock(function.call(owner, lease)),
+            Function::Fair(function) => Call::Fair(function.call(owner, lease, queue)),
             Function::ReadWrite(function) => Call::ReadWrite(function.call(owner, lease)),
             Function::Fenced(function) => Call::Fenced(function.call(owner, lease)),
             Function::Semaphore(function) => Call::Semaphore(function.call(want.number)),
@@ -121,6 +131,7 @@ impl Call {
     {
         match self {
             Call::Lock(_) => Kind::Mutex,
+            Call::Fair(_) => Kind::Fair,
             Call::ReadWrite(_) => Kind::Rw,
             Call::Fenced(_) => Kind::Fenced,
             Call::Semaphore(_) => Kind::Semaphore,
@@ -135,6 +146,7 @@ impl Call {
     {
         match self {
             Call::Lock(call) => call.check(),
+            Call::Fair(call) => call.check(),
             Call::ReadWrite(call) => call.check(),
             Call::Fenced(call) => call.check(),
             Call::Semaphore(call) => call.check(),

@@ -5,6 +5,7 @@
 mod access;
 mod amount;
 mod countdown;
+mod fair;
 mod fenced;
 mod form;
 mod function;
@@ -20,6 +21,7 @@ mod want;
 pub use access::Access;
 pub use amount::Amount;
 pub use countdown::{CountdownCall, CountdownFunction};
+pub use fair::{FairCall, FairFunction};
 pub use fenced::{FencedCall, FencedFunction};
 pub use form::{Arguments, Begins, Form};
 pub use kinds::{Call, Function};

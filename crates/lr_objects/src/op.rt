@@ -48,6 +48,9 @@ impl Op {
     pub fn channel(&self) -> Channel
         ensures { result ≡ channel_of self.now }
     {
-        Channel::of(self.kind(), self.name())
+        match &self.call {
+            Call::Fair(call) => Channel::fair(self.name(), &call.owner()),
+            _ => Channel::of(self.kind(), self.name()),
+        }
     }
 }

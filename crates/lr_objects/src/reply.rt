@@ -110,12 +110,15 @@ pub enum Reply {
     AlreadySet,
     /// So many there are now: permits, counts, or tokens that were given out.
     Count(Integer),
-    /// There is nothing of this id.
+    /// There is nothing of this id, or no place of this owner.
     Unknown,
-    /// There would be more than there may be: permits of a semaphore, or holds or leases of an object.
+    /// There would be more than there may be: permits of a semaphore, or holds, leases or places in
+    /// the queue of an object.
     TooMany,
     /// The lock has given out its last token.
     TokensSpent,
+    /// The place in the queue was given up.
+    Left,
 }
 
 impl Reply {
@@ -142,6 +145,7 @@ impl Reply {
             Reply::Unknown => b"unknown",
             Reply::TooMany => b"too-many",
             Reply::TokensSpent => b"tokens-spent",
+            Reply::Left => b"left",
         }
     }
 
