@@ -5,6 +5,8 @@ use Rattle.lr_objects.specs.Function.{arguments_of, begins}
 use Rattle.lr_objects.specs.Want.{HasAmount}
 use Rattle.lr_objects.specs.declared.countdown.CountdownFunction.{CountdownFunction}
 use Rattle.lr_objects.specs.declared.countdown.CountdownFunction.TheVariants as countdown
+use Rattle.lr_objects.specs.declared.fair.FairFunction.{FairFunction}
+use Rattle.lr_objects.specs.declared.fair.FairFunction.TheVariants as fair
 use Rattle.lr_objects.specs.declared.fenced.FencedFunction.{FencedFunction}
 use Rattle.lr_objects.specs.declared.fenced.FencedFunction.TheVariants as fenced
 use Rattle.lr_objects.specs.declared.kinds.Function.{Function}
@@ -26,6 +28,10 @@ use Rattle.lr_objects.specs.declared.want.Want.{Want}
 abbrev pub lock_waits : LockFunction → Bool
 lock_waits lock.Try = true
 lock_waits _ = false
+
+abbrev pub fair_waits : FairFunction → Bool
+fair_waits fair.Try = true
+fair_waits _ = false
 
 abbrev pub fenced_waits : FencedFunction → Bool
 fenced_waits fenced.Try = true
@@ -53,6 +59,7 @@ countdown_waits _ = false
 -- whether a request may wait. A further kind whose requests wait adds its line.
 abbrev pub waits : Function → Bool
 waits (functions.Lock function) = lock_waits function
+waits (functions.Fair function) = fair_waits function
 waits (functions.ReadWrite function) = read_write_waits function
 waits (functions.Fenced function) = fenced_waits function
 waits (functions.Semaphore function) = semaphore_waits function

@@ -4,5 +4,6 @@ pub mod Session
 pub mod Client
 pub mod Stand
 pub mod Peak
+pub mod Queue
 pub mod Told
 pub mod Begin

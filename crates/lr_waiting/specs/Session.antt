@@ -13,6 +13,7 @@ use Rattle.lr_names.specs.declared.post.Push.TheVariants.{Subscribed, Unsubscrib
 use Rattle.lr_objects.specs.Op.{channel_of}
 use Rattle.lr_objects.specs.Reply.{blocks}
 use Rattle.lr_objects.specs.Want.{op_of}
+use Rattle.lr_objects.specs.declared.fair.FairFunction.TheVariants as fair
 use Rattle.lr_objects.specs.declared.kinds.Function.{Function}
 use Rattle.lr_objects.specs.declared.kinds.Function.TheVariants as functions
 use Rattle.lr_objects.specs.declared.read_write.ReadWriteFunction.{ReadWriteFunction}
@@ -179,6 +180,7 @@ access_watched read_write.Renew = None
 -- what kind of hold a function is about, where a watchdog can renew it
 abbrev pub watch_kind : Function → Option WatchKind
 watch_kind (functions.Lock function) = Some watched.Lock
+watch_kind (functions.Fair function) = Some watched.Fair
 watch_kind (functions.Fenced function) = Some watched.Fenced
 watch_kind (functions.ReadWrite function) = access_watched function
 watch_kind _ = None
@@ -268,8 +270,9 @@ may_wait modes.Once = false
 may_wait (modes.For millis) = true
 may_wait modes.Long = true
 
--- the function by which a place in a queue is given up: no lock has a queue yet
+-- the function by which a place in a queue is given up: only a fair lock has a queue
 abbrev pub leaving_function : Function → Option Function
+leaving_function (functions.Fair function) = Some (functions.Fair fair.Leave)
 leaving_function _ = None
 
 -- what a request wants once it gives its place up

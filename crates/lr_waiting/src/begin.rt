@@ -2,7 +2,7 @@ ghost use Rattle.std.specs.Prelude.{◌≡◌};
 ghost use Rattle.lr_waiting.specs.Begin.{waits};
 
 use lr_objects::{
-    CountdownFunction, FencedFunction, Function, LockFunction, PermitFunction, ReadWriteFunction,
+    CountdownFunction, FairFunction, FencedFunction, Function, LockFunction, PermitFunction, ReadWriteFunction,
     SemaphoreFunction,
 };
 
@@ -13,6 +13,7 @@ pub fn waits(function: Function) -> bool
     matches!(
         function,
         Function::Lock(LockFunction::Try)
+            | Function::Fair(FairFunction::Try)
             | Function::Fenced(FencedFunction::Try)
             | Function::ReadWrite(ReadWriteFunction::Read | ReadWriteFunction::Write)
             | Function::Semaphore(SemaphoreFunction::Try)
