@@ -3,6 +3,8 @@
 
 #[cfg(test)]
 mod broadcast_tests;
+#[cfg(test)]
+mod fair_tests;
 mod run;
 #[cfg(test)]
 mod tests;

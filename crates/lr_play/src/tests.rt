@@ -386,6 +386,11 @@ fn ends_so(alloc: Global, run: Run) -> Result<bool, AllocError> {
 pub(crate) fn is_shown(alloc: Global, steps: &[Step]) -> Result<bool, AllocError> {
     let mut script = Script::new(alloc);
     script.steps(steps)?;
+    shows(alloc, &script)
+}
+
+// Whether a schedule shows what it should.
+pub(crate) fn shows(alloc: Global, script: &Script) -> Result<bool, AllocError> {
     let words = words(alloc, &["play"])?;
     let pieces = [script.input.as_slice()];
     let mut source = MemSource::new(&pieces, &[]);

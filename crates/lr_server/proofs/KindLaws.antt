@@ -119,3 +119,12 @@ second_among first key keys = by (bytes_eq key first)
     by : (b : Bool) → IsTrue (b || list_any (bytes_eq key) (key ∷ keys))
     by true = refl
     by false = first_among key keys
+
+-- and the third
+pub third_among : (first second key : List ℕ) (keys : List (List ℕ))
+    → IsTrue (list_any (bytes_eq key) (first ∷ second ∷ key ∷ keys))
+third_among first second key keys = by (bytes_eq key first)
+  where
+    by : (b : Bool) → IsTrue (b || list_any (bytes_eq key) (second ∷ key ∷ keys))
+    by true = refl
+    by false = second_among second key keys

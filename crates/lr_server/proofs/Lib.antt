@@ -3,6 +3,7 @@ pub mod Done
 pub mod KindLaws
 pub mod KindsLater
 pub mod MutexesStay
+pub mod FairLocksStay
 pub mod FencedLocksStay
 pub mod ReadWriteLocksStay
 pub mod SemaphoresStay

@@ -5,6 +5,7 @@ ghost use Rattle.lr_limits.specs.Limits.{last_moment};
 ghost use Rattle.lr_server.specs.Done.{IsRun};
 
 pub(crate) mod countdowns;
+mod fair_locks;
 mod fenced_locks;
 mod mutexes;
 pub(crate) mod permits;
@@ -30,6 +31,7 @@ pub(crate) fn run(
     let name = op.name();
     match &op.call {
         Call::Lock(call) => mutexes::run(alloc, keys, moment, name, call),
+        Call::Fair(call) => fair_locks::run(alloc, keys, moment, name, call),
         Call::ReadWrite(call) => read_write_locks::run(alloc, keys, moment, name, call),
         Call::Fenced(call) => fenced_locks::run(alloc, keys, moment, name, call),
         Call::Semaphore(call) => semaphores::run(alloc, keys, moment, name, call),

@@ -32,6 +32,7 @@ pub(crate) fn would_wait(keys: &KeySpace, moment: u64, want: &Want, owner: &Owne
         Function::Countdown(f) => countdowns::would_wait(keys, want, f),
         // A message of these wakes one thread.
         Function::Lock(_) => unreachable!(),
+        Function::Fair(_) => unreachable!(),
         Function::Fenced(_) => unreachable!(),
     }
 }
