@@ -6,11 +6,9 @@ use Rattle.std.proofs.lemmas.Bool.Decides.{same_from_decides, Decides-like}
 use Rattle.std.proofs.lemmas.Slice.Eq.{bytes_eq-Decides}
 use Rattle.std.proofs.lemmas.Option.{same_Some}
 use Rattle.lr_limits.specs.Limits.{hold_limit, token_limit}
-use Rattle.lr_names.specs.Channel.{channel_wakes}
 use Rattle.lr_names.specs.Owner.{ThreadOfClient, same_owner}
 use Rattle.lr_names.specs.declared.kind.Kind.{Kind}
 use Rattle.lr_names.specs.declared.kind.Kind.TheVariants as kinds
-use Rattle.lr_names.specs.declared.kind.Wakes.TheVariants.{One, All}
 use Rattle.lr_names.specs.declared.post.Post.{Post}
 use Rattle.lr_objects.specs.Op.{kind_of, name_of, call_on}
 use Rattle.lr_objects.specs.declared.fenced.FencedCall.{FencedCall}

@@ -1,8 +1,7 @@
 -- Only the latches of a client change: its threads stay.
 use Rattle.std.proofs.Common.{◌≡◌, ℕ, ◌<◌, ◌≤◌, true, Some, refl, sym, ◌∙◌}
 use Rattle.lr_limits.specs.Limits.{thread_limit}
-use Rattle.lr_names.specs.Channel.{ChannelOf, channel_wakes}
-use Rattle.lr_names.specs.declared.kind.Wakes.TheVariants.{One}
+use Rattle.lr_names.specs.Channel.{ChannelOf}
 use Rattle.lr_model.specs.Board.{Connection}
 use Rattle.lr_waiting.specs.Latch.{Latches, is_subscribed}
 use Rattle.lr_waiting.specs.Session.{with_latches}

@@ -1,5 +1,5 @@
 -- What is told to stand for who sleeps for a fair lock: it comes before its place goes stale.
-use Rattle.std.proofs.Common.{◌≡◌, ℕ, ◌+◌, ◌≤◌, true, Option, Some, None, refl, ap, sym, ◌∙◌, subst, arith, if◌then◌else◌}
+use Rattle.std.proofs.Common.{◌≡◌, ℕ, ◌+◌, ◌≤◌, true, Some, None, refl, ap, sym, ◌∙◌, subst, arith, if◌then◌else◌}
 use Rattle.std.proofs.lemmas.Bool.{and_from}
 use Rattle.std.proofs.lemmas.Option.{same_Some}
 use Rattle.lr_limits.specs.Limits.{thread_limit}
@@ -12,7 +12,6 @@ use Rattle.lr_waiting.specs.declared.waiter.Stage.TheVariants.{Asleep}
 use Rattle.lr_waiting.specs.declared.waiter.Waiter.{Waiter}
 use Rattle.lr_model.specs.Board.{same_channel, Connection}
 use Rattle.lr_model.specs.Fair.{place_wait}
-use Rattle.lr_model.specs.History.{State}
 use Rattle.lr_model.proofs.SameChannel.{same_self}
 use Rattle.lr_waiting.specs.Client.{Client, waiter_in}
 use Rattle.lr_waiting.specs.Session.{channel_in}
