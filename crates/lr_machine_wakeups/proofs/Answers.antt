@@ -37,7 +37,7 @@ use Rattle.lr_waiting.specs.Session.{owner_in, channel_in, may_wait}
 use Rattle.lr_wakeups.specs.Standing.{wakes_one_of_many, IsInTime}
 use Rattle.lr_machine.specs.Sound.{IsInOrder}
 use Rattle.lr_machine.specs.World.{World, first_state, state_of}
-use Rattle.lr_machine_wakeups.specs.WorldFacts.{is_shared, peak_for, peak_of, IsAsked, AskedAt, IsMade, AskedWith}
+use Rattle.lr_machine_wakeups.specs.WorldFacts.{peak_for, peak_of, IsAsked, AskedAt, IsMade, AskedWith}
 use Rattle.lr_machine_wakeups.proofs.Shared.{shared-many, stays-many, own-op}
 use Rattle.lr_machine_wakeups.proofs.Deadlines.{below-history}
 
@@ -227,7 +227,7 @@ tells-want objects moment (functions.Permits f) name want owner other lease queu
 tells-want objects moment (functions.Countdown f) name want owner other lease queue one =
     absurd (false≢true one)
 
-never : {A : Type 0} (x : A) → None ≡ Some x → ⊥
+pub never : {A : Type 0} (x : A) → None ≡ Some x → ⊥
 never x e = absurd (cc e)
 
 -- a call that was sent

@@ -1,18 +1,17 @@
 -- A reply that refuses the call of a request for a fair lock leaves it a place in the queue.
-use Rattle.std.proofs.Common.{◌≡◌, ℕ, ◌+◌, ◌-◌, ◌≤◌, ◌==◌, nat_lt, min, length, List, [], ◌∷◌, Bool, true, false, ◌&&◌, Option, Some, None, if◌then◌else◌, refl, sym, ap, ◌∙◌, subst, arith, ◌⊎◌, inl, inr}
+use Rattle.std.proofs.Common.{◌≡◌, ℕ, ◌+◌, ◌-◌, ◌≤◌, ◌==◌, nat_lt, min, length, List, [], ◌∷◌, Bool, true, false, Option, Some, None, if◌then◌else◌, refl, sym, ap, ◌∙◌, subst, arith, ◌⊎◌, inl, inr}
 use Rattle.std.specs.Option.{option_map}
 use Rattle.std.proofs.lemmas.Bool.{and_from, false≢true}
 use Rattle.lr_limits.specs.Limits.{hold_limit, member_limit}
 use Rattle.lr_names.specs.Channel.{ChannelOf, is_fair}
 use Rattle.lr_names.specs.Owner.{ThreadOfClient, same_owner}
 use Rattle.lr_names.specs.declared.post.Post.{Post}
-use Rattle.lr_objects.specs.FairCalls.{fair_call_of}
 use Rattle.lr_objects.specs.Kinds.{call_of, call_kind}
 use Rattle.lr_objects.specs.Op.{channel_of, call_on}
 use Rattle.lr_objects.specs.Reply.{blocks}
 use Rattle.lr_objects.specs.Want.{op_of}
 use Rattle.lr_objects.specs.declared.fair.FairCall.{FairCall}
-use Rattle.lr_objects.specs.declared.fair.FairCall.TheVariants.{Try, Unlock, Leave, Renew}
+use Rattle.lr_objects.specs.declared.fair.FairCall.TheVariants.{Try, Leave}
 use Rattle.lr_objects.specs.declared.fair.FairFunction.{FairFunction}
 use Rattle.lr_objects.specs.declared.fair.FairFunction.TheVariants as fair
 use Rattle.lr_objects.specs.declared.kinds.Call.{Call}
@@ -22,17 +21,15 @@ use Rattle.lr_objects.specs.declared.kinds.Function.TheVariants as functions
 use Rattle.lr_objects.specs.declared.op.Op.{Op}
 use Rattle.lr_objects.specs.declared.reply.Reply.{Reply}
 use Rattle.lr_objects.specs.declared.reply.Reply.TheVariants as replies
-use Rattle.lr_objects.specs.declared.want.Mode.{Mode}
 use Rattle.lr_objects.specs.declared.want.Want.{Want}
 use Rattle.lr_model.specs.declared.hold.Hold.{Hold}
 use Rattle.lr_model.specs.Answer.{Objects, answer_call, reply_of, objects_after}
 use Rattle.lr_model.specs.Board.{same_channel}
-use Rattle.lr_model.specs.Fair.{FairPlace, FairLock, is_place_of, place_of, place_wait, live_places, with_queue, with_last_place, with_later_place, first_post, wait_with, wait_for, take_turn, take_fair, leave_with, fair_try, fair_unlock, fair_leave, fair_renew, fair_call}
+use Rattle.lr_model.specs.Fair.{FairPlace, FairLock, is_place_of, place_of, place_wait, live_places, with_queue, with_last_place, first_post, wait_with, wait_for, take_turn, take_fair, leave_with, fair_try, fair_unlock, fair_renew}
 use Rattle.lr_model.specs.Hold.{live_hold, holding, freeing, take_hold, give_back_hold, renew_hold}
 use Rattle.lr_model.specs.Moment.{is_lease}
 use Rattle.lr_model.specs.Outcome.{Outcome, silent_outcome, with_lease}
 use Rattle.lr_model.proofs.SameChannel.{same_self}
-use Rattle.lr_laws.specs.FairTurns.{HasPlaceUntil}
 use Rattle.lr_laws.proofs.FairPlaces.{place_left-call}
 use Rattle.lr_waiting.specs.declared.waiter.Asking.{Asking}
 use Rattle.lr_waiting.specs.declared.waiter.Waiter.{Waiter}
@@ -81,12 +78,13 @@ module _ (f : FairFunction) where
       by : (room : Bool)
           → Tells
           (if room
-          then silent_outcome (replies.Busy wait)
+          then silent_outcome {X = FairLock} (replies.Busy wait)
           (record {
             held = held;
             queue = with_last_place owner (moment + wait + place_wait) queue;
           })
-          else silent_outcome replies.TooMany (record { held = held; queue = queue })).reply
+          else silent_outcome {X = FairLock} replies.TooMany
+          (record { held = held; queue = queue })).reply
       by true = λ refused. (wait, refl)
       by false = lets replies.TooMany refl
   tells-wait_with moment wait owner held queue (Some own) = λ refused. (wait, refl)
@@ -142,9 +140,9 @@ module _ (f : FairFunction) where
           tells-wait_for moment (hold.deadline - moment) owner queues (Some hold) queue
 
   -- a lease out of range isn't waited for
-  leased : {P : Reply → Type 0} (lease : ℕ) (lock : FairLock) (outcome : Outcome FairLock)
+  leased : (P : Reply → Type 0) (lease : ℕ) (lock : FairLock) (outcome : Outcome FairLock)
       → P outcome.reply → P replies.BadLease → P (with_lease lease lock outcome).reply
-  leased {P} lease lock outcome then_ bad = by (is_lease lease)
+  leased P lease lock outcome then_ bad = by (is_lease lease)
     where
       by : (is : Bool)
           → P (if is then outcome else silent_outcome replies.BadLease lock).reply
@@ -154,7 +152,7 @@ module _ (f : FairFunction) where
   tells-try : (moment lease : ℕ) (owner : ThreadOfClient) (queues : Bool) (lock : FairLock)
       → Tells (fair_try moment owner lease queues lock).reply
   tells-try moment lease owner queues lock =
-      leased {P = Tells} lease lock
+      leased Tells lease lock
       (take_fair moment owner lease queues (live_places moment lock.queue)
       (live_hold moment lock.held))
       (tells-take moment lease owner queues (live_places moment lock.queue)
@@ -195,7 +193,7 @@ module _ (f : FairFunction) where
   unlocks : (name : List ℕ) (moment rest : ℕ) (owner : ThreadOfClient) (lock : FairLock)
       → refuses (fair_unlock name moment owner rest lock).reply ≡ false
   unlocks name moment rest owner lock =
-      leased {P = λ reply. refuses reply ≡ false} rest lock
+      leased (λ reply. refuses reply ≡ false) rest lock
       (with_queue (live_places moment lock.queue)
       (give_back_hold (first_post name (live_places moment lock.queue)) moment owner rest
       (live_hold moment lock.held)))
@@ -206,7 +204,7 @@ module _ (f : FairFunction) where
   renews-lock : (moment lease : ℕ) (owner : ThreadOfClient) (lock : FairLock)
       → refuses (fair_renew moment owner lease lock).reply ≡ false
   renews-lock moment lease owner lock =
-      leased {P = λ reply. refuses reply ≡ false} lease lock
+      leased (λ reply. refuses reply ≡ false) lease lock
       (with_queue lock.queue (renew_hold moment owner lease (live_hold moment lock.held)))
       (renews moment lease owner (live_hold moment lock.held)) refl
 
@@ -287,15 +285,25 @@ module _ (world : World) (owner : ThreadOfClient) (want : Want) (lease at : ℕ)
           absurd
           (false≢true (sym (renews-lock fair.Renew world.moment lease owner lock) ∙ refused))
 
+      -- it is a request for a fair lock
+      other : (function : Function) → want.function ≡ function
+          → is_fair (call_kind (call_of function want owner 0 false)) ≡ false → ⊥
+      other function e not_fair =
+          false≢true
+          (sym not_fair
+          ∙ sym (ap (λ g. is_fair (call_kind (call_of g want owner 0 false))) e) ∙ is)
+
       by : (function : Function) → want.function ≡ function
           → blocks (reply function) function ≡ true
           → (want.function ≡ functions.Fair fair.Try)
           × ((millis : ℕ) × (reply function ≡ replies.Busy millis))
       by (functions.Fair f) e refused = by_fair f e refused
-      by _ e refused = absurd (other e)
-        where
-          other : want.function ≡ _ → ⊥
-          other f = false≢true (sym (ap (λ g. is_fair (call_kind (call_of g want owner 0 false))) f) ∙ is)
+      by (functions.Lock f) e refused = absurd (other (functions.Lock f) e refl)
+      by (functions.Fenced f) e refused = absurd (other (functions.Fenced f) e refl)
+      by (functions.ReadWrite f) e refused = absurd (other (functions.ReadWrite f) e refl)
+      by (functions.Semaphore f) e refused = absurd (other (functions.Semaphore f) e refl)
+      by (functions.Permits f) e refused = absurd (other (functions.Permits f) e refl)
+      by (functions.Countdown f) e refused = absurd (other (functions.Countdown f) e refl)
 
   left-place : blocks answer want.function ≡ true
       → HasPlace ((turn_of world sent).left own) (due_by_reply at (Some answer))

@@ -1,13 +1,11 @@
 -- The owner of a channel makes a call: no thread was refused there.
-use Rattle.std.proofs.Common.{◌≡◌, ℕ, ◌+◌, ◌<◌, ◌≤◌, ◌^◌, List, Bool, true, false, ◌&&◌, Option, Some, None, refl, sym, ap, ◌∙◌, subst, arith, ◌⊎◌, inl, inr}
-use Rattle.std.specs.Int.{w128, from_be_bytes, to_be_bytes}
-use Rattle.std.proofs.lemmas.Bool.{and_parts, and_from, false≢true}
+use Rattle.std.proofs.Common.{◌≡◌, ℕ, ◌<◌, ◌^◌, List, Bool, true, false, ◌&&◌, Option, Some, None, refl, sym, ap, ◌∙◌, arith, ◌⊎◌, inl, inr}
+use Rattle.std.specs.Int.{w128, from_be_bytes}
+use Rattle.std.proofs.lemmas.Bool.{and_parts, false≢true}
 use Rattle.std.proofs.lemmas.Option.{same_Some}
 use Rattle.uuid.proofs.OrderLemmas.{from_be_bytes-to_be_bytes_16}
-use Rattle.lr_limits.specs.Limits.{thread_limit}
 use Rattle.lr_names.specs.Channel.{ChannelOf, is_fair}
 use Rattle.lr_names.specs.Owner.{ThreadOfClient}
-use Rattle.lr_names.specs.declared.kind.Kind.TheVariants as kinds
 use Rattle.lr_objects.specs.FairCalls.{fair_owner, fair_call_of}
 use Rattle.lr_objects.specs.Kinds.{call_of, call_kind}
 use Rattle.lr_objects.specs.Op.{queued_by, channel_of}
@@ -21,14 +19,14 @@ use Rattle.lr_objects.specs.declared.reply.Reply.{Reply}
 use Rattle.lr_objects.specs.declared.want.Mode.{Mode}
 use Rattle.lr_objects.specs.declared.want.Want.{Want}
 use Rattle.lr_model.specs.Board.{same_channel}
-use Rattle.lr_model.proofs.SameChannel.{same_is, same_self}
+use Rattle.lr_model.proofs.SameChannel.{same_is}
 use Rattle.lr_waiting.specs.declared.waiter.Asking.{Asking}
 use Rattle.lr_waiting.specs.declared.waiter.Stage.{Stage}
 use Rattle.lr_waiting.specs.declared.waiter.Stage.TheVariants.{Asked}
 use Rattle.lr_waiting.specs.declared.waiter.Waiter.{Waiter}
 use Rattle.lr_waiting.specs.Client.{Client, waiter_in, asked_at, asked_by, asked_of}
 use Rattle.lr_waiting.specs.Queue.{is_own_call}
-use Rattle.lr_waiting.specs.Session.{channel_for, owner_in}
+use Rattle.lr_waiting.specs.Session.{channel_for, owner_in, may_wait, leaving_function, leaving_want}
 use Rattle.lr_waiting.specs.Stand.{waits_at}
 use Rattle.lr_wakeups.specs.Queued.{NobodyIsBlocked}
 use Rattle.lr_wakeups.specs.Standing.{is_blocked_at, blocked_with, is_blocked}
@@ -117,9 +115,20 @@ sent_by moment owner mode want asking sent is = by sent.op
         ap (λ (o : Op). (channel_of o).owner) same
         ∙ made (ap (λ (o : Op). is_fair (channel_of o).kind) (sym same) ∙ here)
 
-    by : _ ⊎ _ → (channel_of asking.op).owner ≡ Some owner
-    by (inl e) = of asking.op _ e (made_by owner want sent.lease _) is
-    by (inr e) = of asking.op _ e (made_by owner _ sent.lease _) is
+    left : Want
+    left = leaving_want want (leaving_function want.function)
+
+    by : (asking.op ≡ op_of want owner sent.lease (may_wait mode))
+        ⊎ (asking.op
+        ≡ op_of (leaving_want want (leaving_function want.function)) owner sent.lease
+        (may_wait mode))
+        → (channel_of asking.op).owner ≡ Some owner
+    by (inl e) =
+        of asking.op (op_of want owner sent.lease (may_wait mode)) e
+        (made_by owner want sent.lease (may_wait mode)) is
+    by (inr e) =
+        of asking.op (op_of left owner sent.lease (may_wait mode)) e
+        (made_by owner left sent.lease (may_wait mode)) is
 
 -- a call of the channel's owner
 own_call : (q : ChannelOf) (op : Op) → is_own_call q op ≡ true

@@ -373,12 +373,13 @@ wait-fair moment wait owner true held queue = by (place_of owner queue)
     by_room : (room : Bool)
         → IsFairPost
         (if room
-        then silent_outcome (replies.Busy wait)
+        then silent_outcome {X = FairLock} (replies.Busy wait)
         (record {
           held = held;
           queue = with_last_place owner (moment + wait + place_wait) queue;
         })
-        else silent_outcome replies.TooMany (record { held = held; queue = queue })).post
+        else silent_outcome {X = FairLock} replies.TooMany
+        (record { held = held; queue = queue })).post
     by_room true = tt
     by_room false = tt
 

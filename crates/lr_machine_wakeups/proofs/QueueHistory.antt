@@ -1,5 +1,5 @@
 -- A place that the last call of a channel's owner left is in the queue as long as it isn't stale.
-use Rattle.std.proofs.Common.{◌≡◌, ℕ, ◌<◌, ◌≤◌, List, [], ◌∷◌, Bool, true, false, Option, Some, None, refl, sym, ap, ◌∙◌, subst, arith, if◌then◌else◌}
+use Rattle.std.proofs.Common.{◌≡◌, ℕ, ◌<◌, ◌≤◌, List, [], ◌∷◌, Bool, true, false, Option, Some, None, refl, sym, ap, ◌∙◌, arith, if◌then◌else◌}
 use Rattle.std.specs.Option.{option_map}
 use Rattle.std.proofs.lemmas.Bool.{and_from, false≢true}
 use Rattle.std.proofs.lemmas.Option.{same_Some}
@@ -24,7 +24,7 @@ use Rattle.lr_waiting.specs.Queue.{is_own_call, stale_of, stale_on, place_by_cal
 use Rattle.lr_laws.specs.FairTurns.{IsFairCallOf}
 use Rattle.lr_laws.proofs.FairPlaces.{place_stays-call}
 use Rattle.lr_machine.specs.Sound.{IsInOrder}
-use Rattle.lr_machine.specs.World.{World, first_state, state_of}
+use Rattle.lr_machine.specs.World.{World, first_state}
 use Rattle.lr_machine_wakeups.specs.WorldFacts.{PlaceStays}
 
 never : {A : Type 0} (x : A) → None ≡ Some x → ⊥

@@ -1,5 +1,5 @@
 -- Which channels are shared, and what a call that was sent is where they are.
-use Rattle.std.proofs.Common.{◌≡◌, ℕ, Bool, true, false, Option, None, refl, ap, ◌∙◌, ◌⊎◌, inl, inr}
+use Rattle.std.proofs.Common.{◌≡◌, ℕ, Bool, true, false, None, refl, ap, ◌∙◌, ◌⊎◌, inl, inr}
 use Rattle.std.proofs.lemmas.Bool.{false≢true}
 use Rattle.lr_names.specs.Channel.{ChannelOf, channel_wakes}
 use Rattle.lr_names.specs.Owner.{ThreadOfClient}
