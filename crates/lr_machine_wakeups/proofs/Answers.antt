@@ -1,11 +1,9 @@
--- A reply that refuses a call, on a channel where a message wakes one, gives a timer in time.
+-- A reply that refuses a call, on a channel where a message wakes one of many, gives a timer in time.
 use Rattle.std.proofs.Common.{◌≡◌, ℕ, ◌+◌, ◌-◌, ◌≤◌, ◌<◌, ◌==◌, List, Bool, true, false, Option, Some, None, if◌then◌else◌, refl, sym, ap, ◌∙◌, subst, arith}
 use Rattle.std.proofs.lemmas.Bool.{false≢true, ltb-true}
 use Rattle.std.proofs.lemmas.Option.{same_Some}
 use Rattle.lr_limits.specs.Limits.{hold_limit, token_limit}
-use Rattle.lr_names.specs.Channel.{channel_wakes}
 use Rattle.lr_names.specs.Owner.{ThreadOfClient, same_owner}
-use Rattle.lr_names.specs.declared.kind.Wakes.TheVariants.{One}
 use Rattle.lr_names.specs.declared.post.Post.{Post}
 use Rattle.lr_objects.specs.Kinds.{call_of, call_kind}
 use Rattle.lr_objects.specs.LockCalls.{lock_call_of}
@@ -34,12 +32,13 @@ use Rattle.lr_waiting.specs.declared.waiter.Stage.{Stage}
 use Rattle.lr_waiting.specs.declared.waiter.Stage.TheVariants.{Asked}
 use Rattle.lr_waiting.specs.declared.waiter.Waiter.{Waiter}
 use Rattle.lr_waiting.specs.Client.{Client, waiter_in, asked_at, asked_by, asked_of}
-use Rattle.lr_waiting.specs.Peak.{deadline_of, live_until}
-use Rattle.lr_waiting.specs.Session.{channel_in}
-use Rattle.lr_wakeups.specs.Standing.{IsInTime}
+use Rattle.lr_waiting.specs.Peak.{deadline_of, live_until, peak_after}
+use Rattle.lr_waiting.specs.Session.{owner_in, channel_in, may_wait}
+use Rattle.lr_wakeups.specs.Standing.{wakes_one_of_many, IsInTime}
 use Rattle.lr_machine.specs.Sound.{IsInOrder}
-use Rattle.lr_machine.specs.World.{World, state_of}
-use Rattle.lr_machine_wakeups.specs.WorldFacts.{peak_of, IsAsked, AskedAt, AskedWith}
+use Rattle.lr_machine.specs.World.{World, first_state, state_of}
+use Rattle.lr_machine_wakeups.specs.WorldFacts.{peak_for, peak_of, IsAsked, AskedAt, IsMade, AskedWith}
+use Rattle.lr_machine_wakeups.proofs.Shared.{shared-many, stays-many, own-op}
 use Rattle.lr_machine_wakeups.proofs.Deadlines.{below-history}
 
 -- a reply that refuses a call says how long to wait, and that is no later than this
@@ -209,7 +208,7 @@ tells-fenced f moment name fenced.Token held =
 -- The call of a want: what its function is about is what refuses it.
 tells-want : (objects : Objects) (moment : ℕ) (function : Function) (name : List ℕ) (want : Want)
     (owner other : ThreadOfClient) (lease : ℕ) (queue : Bool)
-    → channel_wakes (call_kind (call_of function want other 0 false)) ≡ One
+    → wakes_one_of_many (call_kind (call_of function want other 0 false)) ≡ true
     → TellsTime function moment
     (live_until objects (call_kind (call_of function want other 0 false)) name moment)
     (reply_of objects moment (record { name = name; call = call_of function want owner lease queue }))
@@ -217,54 +216,78 @@ tells-want objects moment (functions.Lock f) name want owner other lease queue o
     tells-lock (functions.Lock f) moment name (lock_call_of f owner lease) (objects.mutexes name)
 tells-want objects moment (functions.Fenced f) name want owner other lease queue one =
     tells-fenced f moment name (fenced_call_of f owner lease) (objects.fenced_locks name)
+tells-want objects moment (functions.Fair f) name want owner other lease queue one =
+    absurd (false≢true one)
 tells-want objects moment (functions.ReadWrite f) name want owner other lease queue one =
-    absurd (cc one)
+    absurd (false≢true one)
 tells-want objects moment (functions.Semaphore f) name want owner other lease queue one =
-    absurd (cc one)
+    absurd (false≢true one)
 tells-want objects moment (functions.Permits f) name want owner other lease queue one =
-    absurd (cc one)
+    absurd (false≢true one)
 tells-want objects moment (functions.Countdown f) name want owner other lease queue one =
-    absurd (cc one)
+    absurd (false≢true one)
 
-never : {A : Type 0} (x : A) → None ≡ Some x → ⊥
+pub never : {A : Type 0} (x : A) → None ≡ Some x → ⊥
 never x e = absurd (cc e)
 
 -- a call that was sent
-pub asked-is : (moment : ℕ) (waiter : Waiter) (reply : Option Reply) (asking : Asking)
-    → AskedWith moment (Some waiter) → asked_at waiter.stage reply ≡ Some asking
-    → IsAsked moment waiter.want asking
-asked-is moment waiter reply asking = by waiter.stage reply
+pub asked-is : (moment : ℕ) (owner : ThreadOfClient) (waiter : Waiter) (reply : Option Reply)
+    (asking : Asking) → IsMade moment owner waiter
+    → asked_at waiter.stage reply ≡ Some asking
+    → IsAsked moment owner waiter.mode waiter.want asking
+asked-is moment owner waiter reply asking made = by waiter.stage reply made.asked
   where
-    by : (stage : Stage) (reply : Option Reply) → AskedAt moment waiter.want stage
-        → asked_at stage reply ≡ Some asking → IsAsked moment waiter.want asking
-    by (Asked other) None asked e = subst (IsAsked moment waiter.want) (same_Some other asking e) asked
+    by : (stage : Stage) (reply : Option Reply)
+        → AskedAt moment owner waiter.mode waiter.want stage
+        → asked_at stage reply ≡ Some asking
+        → IsAsked moment owner waiter.mode waiter.want asking
+    by (Asked other) None asked e =
+        subst (IsAsked moment owner waiter.mode waiter.want) (same_Some other asking e) asked
     by _ reply asked e = absurd (never asking e)
 
-pub answered-in_time : (world : World) (client : Client) (thread : ℕ) (asking : Asking)
-    → IsInOrder world → AskedWith world.moment (waiter_in client thread)
+pub answered-in_time : (world : World) (client : Client) (id : List ℕ) (thread : ℕ)
+    (asking : Asking) → client.session.client ≡ id → IsInOrder world
+    → AskedWith world.moment (record { client = id; thread = thread }) (waiter_in client thread)
     → asked_of client thread ≡ Some asking
     → (waiter : Waiter) → waiter_in client thread ≡ Some waiter
     → IsInTime (peak_of world) client thread waiter asking
     (reply_of (state_of world).objects world.moment asking.op)
-answered-in_time world client thread asking order asked sent waiter was = record {
+answered-in_time world client id thread asking mine order asked sent waiter was = record {
   timer = λ one blocked.
+      let own = owner_in client.session thread in
+      let same = ap (reply_of (state_of world).objects world.moment) (is_own one) in
       let told =
       tells-want (state_of world).objects world.moment waiter.want.function waiter.want.name
-      waiter.want mine.owner (record { client = client.session.client; thread = thread })
-      mine.lease mine.queue one (ap (λ reply. blocks reply waiter.want.function) (sym same) ∙ blocked) in
-      let below =
-      below-history world.entries (channel_in client.session thread waiter).kind
-      waiter.want.name order.legal world.moment order.in_time in
-      (told.0, same ∙ told.1, omega (arith, told.2, below, mine.past));
+      waiter.want (record { client = id; thread = thread }) own asks.lease (may_wait waiter.mode)
+      one (ap (λ reply. blocks reply waiter.want.function) (sym same) ∙ blocked) in
+      let below : live_until (state_of world).objects
+      (channel_in client.session thread waiter).kind waiter.want.name world.moment
+      ≤ peak_of world (channel_in client.session thread waiter) =
+      subst
+      (λ b. live_until (state_of world).objects (channel_in client.session thread waiter).kind
+      waiter.want.name world.moment
+      ≤ peak_for b
+      (peak_after (channel_in client.session thread waiter).kind waiter.want.name first_state
+      world.entries 0))
+      (sym (shared-many own waiter.want one))
+      (below-history world.entries (channel_in client.session thread waiter).kind
+      waiter.want.name order.legal world.moment order.in_time) in
+      (told.0, same ∙ told.1, omega (arith, told.2, below, asks.past));
 }
   where
-    mine : IsAsked world.moment waiter.want asking
-    mine =
-        asked-is world.moment waiter (client.replies thread) asking
-        (subst (AskedWith world.moment) was asked)
+    asks : IsAsked world.moment (record { client = id; thread = thread }) waiter.mode waiter.want
+        asking
+    asks =
+        asked-is world.moment (record { client = id; thread = thread }) waiter
+        (client.replies thread) asking
+        (subst (AskedWith world.moment (record { client = id; thread = thread })) was asked)
         (ap (λ found. asked_by found (client.replies thread)) (sym was) ∙ sent)
 
-    same : reply_of (state_of world).objects world.moment asking.op
-        ≡ reply_of (state_of world).objects world.moment
-        (op_of waiter.want mine.owner mine.lease mine.queue)
-    same = ap (reply_of (state_of world).objects world.moment) mine.op
+    is_own : wakes_one_of_many (channel_in client.session thread waiter).kind ≡ true
+        → asking.op
+        ≡ op_of waiter.want (record { client = id; thread = thread }) asks.lease
+        (may_wait waiter.mode)
+    is_own one =
+        own-op waiter.want (record { client = id; thread = thread }) asks.lease
+        (may_wait waiter.mode) asking.op
+        (stays-many (owner_in client.session thread) waiter.want one) asks.op

@@ -1,5 +1,6 @@
--- How the peaks and the connections of a world change as its history grows.
-use Rattle.std.proofs.Common.{◌≡◌, ℕ, ◌==◌, List, [], ◌∷◌, ◌++◌, Bool, true, false, ◌||◌, if◌then◌else◌, refl, sym, ap, ◌∙◌, arith, ◌⊎◌, inl, inr}
+-- How the peaks, the places that were left and the connections of a world change as its history
+-- grows.
+use Rattle.std.proofs.Common.{◌≡◌, ℕ, ◌==◌, List, [], ◌∷◌, ◌++◌, Option, None, Bool, true, false, ◌||◌, if◌then◌else◌, refl, sym, ap, ◌∙◌, arith, ◌⊎◌, inl, inr}
 use Rattle.std.specs.List.{list_any}
 use Rattle.std.proofs.lemmas.Bool.{eq-eqb, ne_eqb, cases_eq}
 use Rattle.lr_names.specs.Channel.{ChannelOf}
@@ -8,12 +9,13 @@ use Rattle.lr_model.specs.declared.entry.Entry.{Entry}
 use Rattle.lr_model.specs.Board.{Connection, closed_connection, with_connection}
 use Rattle.lr_model.specs.History.{State, step, after}
 use Rattle.lr_waiting.specs.Peak.{peak_by_act, peak_after}
+use Rattle.lr_waiting.specs.Queue.{place_by_act, place_after, told_by_act, told_after}
 use Rattle.lr_machine.specs.Clients.{command_connection, subscription_connection}
 use Rattle.lr_machine.specs.Within.{IsClient}
 use Rattle.lr_machine.specs.World.{World, first_state, state_of, connection_of, with_entry, closes_of_all, with_cut}
 use Rattle.lr_machine_laws.proofs.Closes.{closed_board, kept_open}
 use Rattle.lr_machine_laws.proofs.Worlds.{after-append}
-use Rattle.lr_machine_wakeups.specs.WorldFacts.{peak_for, peak_of}
+use Rattle.lr_machine_wakeups.specs.WorldFacts.{is_shared, peak_for, peak_of, left_of, told_of}
 
 peak_after-append : (kind : Kind) (name : List ℕ) (xs ys : List Entry) (state : State) (peak : ℕ)
     → peak_after kind name state (xs ++ ys) peak
@@ -23,6 +25,22 @@ peak_after-append kind name (x ∷ xs) ys state peak =
     peak_after-append kind name xs ys (step state x)
     (peak_by_act kind name state x.moment x.act peak)
 
+place_after-append : (channel : ChannelOf) (xs ys : List Entry) (state : State) (left : Option ℕ)
+    → place_after channel state (xs ++ ys) left
+    ≡ place_after channel (after state xs) ys (place_after channel state xs left)
+place_after-append channel [] ys state left = refl
+place_after-append channel (x ∷ xs) ys state left =
+    place_after-append channel xs ys (step state x)
+    (place_by_act channel state x.moment x.act left)
+
+told_after-append : (channel : ChannelOf) (xs ys : List Entry) (state : State) (told : Bool)
+    → told_after channel state (xs ++ ys) told
+    ≡ told_after channel (after state xs) ys (told_after channel state xs told)
+told_after-append channel [] ys state told = refl
+told_after-append channel (x ∷ xs) ys state told =
+    told_after-append channel xs ys (step state x)
+    (told_by_act channel state x.moment x.act told)
+
 -- One entry more.
 
 pub state-entry : (entry : Entry) (world : World)
@@ -31,12 +49,24 @@ state-entry entry world = after-append first_state world.entries (entry ∷ [])
 
 pub peak-entry : (entry : Entry) (world : World) (channel : ChannelOf)
     → peak_of (with_entry entry world) channel
-    ≡ peak_for channel.owner
+    ≡ peak_for (is_shared channel)
     (peak_by_act channel.kind channel.name (state_of world) entry.moment entry.act
     (peak_after channel.kind channel.name first_state world.entries 0))
 peak-entry entry world channel =
-    ap (peak_for channel.owner)
+    ap (peak_for (is_shared channel))
     (peak_after-append channel.kind channel.name world.entries (entry ∷ []) first_state 0)
+
+pub left-entry : (entry : Entry) (world : World) (channel : ChannelOf)
+    → left_of (with_entry entry world) channel
+    ≡ place_by_act channel (state_of world) entry.moment entry.act (left_of world channel)
+left-entry entry world channel =
+    place_after-append channel world.entries (entry ∷ []) first_state None
+
+pub told-entry : (entry : Entry) (world : World) (channel : ChannelOf)
+    → told_of (with_entry entry world) channel
+    ≡ told_by_act channel (state_of world) entry.moment entry.act (told_of world channel)
+told-entry entry world channel =
+    told_after-append channel world.entries (entry ∷ []) first_state false
 
 -- Connections that are closed.
 
@@ -75,11 +105,48 @@ objects-cut cs world =
 pub peak-cut : (cs : List ℕ) (world : World) (channel : ChannelOf)
     → peak_of (with_cut cs world) channel ≡ peak_of world channel
 peak-cut cs world channel =
-    ap (peak_for channel.owner)
+    ap (peak_for (is_shared channel))
     (peak_after-append channel.kind channel.name world.entries (closes_of_all world.moment cs)
     first_state 0
     ∙ peak-closes channel.kind channel.name world.moment cs (state_of world)
     (peak_after channel.kind channel.name first_state world.entries 0))
+
+-- and nobody is told, nor is another place left
+left-closes : (channel : ChannelOf) (moment : ℕ) (cs : List ℕ) (state : State) (left : Option ℕ)
+    → place_after channel state (closes_of_all moment cs) left ≡ left
+left-closes channel moment [] state left = refl
+left-closes channel moment (c ∷ cs) state left =
+    left-closes channel moment cs
+    (record {
+      moment = moment;
+      objects = state.objects;
+      board = closed_board state.board c;
+    })
+    left
+
+told-closes : (channel : ChannelOf) (moment : ℕ) (cs : List ℕ) (state : State) (told : Bool)
+    → told_after channel state (closes_of_all moment cs) told ≡ told
+told-closes channel moment [] state told = refl
+told-closes channel moment (c ∷ cs) state told =
+    told-closes channel moment cs
+    (record {
+      moment = moment;
+      objects = state.objects;
+      board = closed_board state.board c;
+    })
+    told
+
+pub left-cut : (cs : List ℕ) (world : World) (channel : ChannelOf)
+    → left_of (with_cut cs world) channel ≡ left_of world channel
+left-cut cs world channel =
+    place_after-append channel world.entries (closes_of_all world.moment cs) first_state None
+    ∙ left-closes channel world.moment cs (state_of world) (left_of world channel)
+
+pub told-cut : (cs : List ℕ) (world : World) (channel : ChannelOf)
+    → told_of (with_cut cs world) channel ≡ told_of world channel
+told-cut cs world channel =
+    told_after-append channel world.entries (closes_of_all world.moment cs) first_state false
+    ∙ told-closes channel world.moment cs (state_of world) (told_of world channel)
 
 closed_twice : (among : Bool) (connection : Connection) → connection ≡ closed_connection
     → (if among then closed_connection else connection) ≡ closed_connection

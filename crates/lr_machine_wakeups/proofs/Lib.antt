@@ -4,8 +4,12 @@ mod Deadlines
 mod PermitWaits
 mod CountWaits
 mod Asked
+mod Shared
+mod OwnCalls
+mod QueueHistory
 mod Posts
 mod Answers
+mod FairAnswers
 mod ReadWriteWaits
 mod Waits
 mod Answered

@@ -1,6 +1,7 @@
--- No message names an owner: all who wait for an object share its channel.
-use Rattle.std.proofs.Common.{◌≡◌, ℕ, ◌+◌, ◌-◌, ◌==◌, nat_lt, nat_le, List, [], ◌∷◌, length, Bool, true, false, Option, Some, None, if◌then◌else◌, refl}
+-- Only the message of a fair lock names an owner: all who wait for another object share its channel.
+use Rattle.std.proofs.Common.{◌≡◌, ℕ, ◌+◌, ◌-◌, ◌==◌, nat_lt, nat_le, min, List, [], ◌∷◌, length, Bool, true, false, Option, Some, None, if◌then◌else◌, refl, ◌⊎◌, inl, inr}
 use Rattle.lr_limits.specs.Limits.{hold_limit, token_limit, member_limit, amount_limit}
+use Rattle.lr_names.specs.Channel.{is_fair}
 use Rattle.lr_names.specs.Owner.{ThreadOfClient, same_owner}
 use Rattle.lr_names.specs.declared.post.Post.{Post}
 use Rattle.lr_objects.specs.declared.access.Access.{Access}
@@ -10,6 +11,8 @@ use Rattle.lr_objects.specs.declared.kinds.Call.{Call}
 use Rattle.lr_objects.specs.declared.kinds.Call.TheVariants as calls
 use Rattle.lr_objects.specs.declared.lock.LockCall.{LockCall}
 use Rattle.lr_objects.specs.declared.lock.LockCall.TheVariants as lock
+use Rattle.lr_objects.specs.declared.fair.FairCall.{FairCall}
+use Rattle.lr_objects.specs.declared.fair.FairCall.TheVariants as fair
 use Rattle.lr_objects.specs.declared.fenced.FencedCall.{FencedCall}
 use Rattle.lr_objects.specs.declared.fenced.FencedCall.TheVariants as fenced
 use Rattle.lr_objects.specs.declared.read_write.ReadWriteCall.{ReadWriteCall}
@@ -25,6 +28,7 @@ use Rattle.lr_model.specs.declared.hold.Hold.{Hold}
 use Rattle.lr_model.specs.declared.read_write_hold.ReadWriteHold.{ReadWriteHold}
 use Rattle.lr_model.specs.Answer.{Objects, answer_call, post_of}
 use Rattle.lr_model.specs.Countdown.{latch_post, countdown_call}
+use Rattle.lr_model.specs.Fair.{FairPlace, FairLock, is_place_of, place_of, place_wait, live_places, without_place, with_last_place, first_post, is_first, with_queue, wait_with, wait_for, take_turn, take_fair, post_at_leave, leave_with, fair_call}
 use Rattle.lr_model.specs.Fenced.{FencedLock, fenced_post, with_token, take_fenced, fenced_call}
 use Rattle.lr_model.specs.Hold.{live_hold, holding, freeing, take_hold, give_back_hold, renew_hold, end_hold}
 use Rattle.lr_model.specs.Moment.{is_lease}
@@ -34,9 +38,15 @@ use Rattle.lr_model.specs.Permits.{Permits, PermitLease, with_new_lease, lease_u
 use Rattle.lr_model.specs.ReadWrite.{ReadWriteLock, hold_of, writer_beside, live_holds, without_hold, holding_so, first_hold, take_again, read_unhindered, read_beside, write_first, write_with, post_at_end, ended, give_back_with, renew_with, read_write_call}
 use Rattle.lr_model.specs.Semaphore.{semaphore_post, free_permits, semaphore_call}
 
-abbrev pub NamesNoOwner : Option Post → Type 0
+abbrev NamesNoOwner : Option Post → Type 0
 NamesNoOwner None = Unit {0}
 NamesNoOwner (Some post) = post.channel.owner ≡ None
+
+-- a message names no owner, or is of a fair lock
+abbrev pub NamesOwnerIfFair : Option Post → Type 0
+NamesOwnerIfFair None = Unit {0}
+NamesOwnerIfFair (Some post) =
+    (post.channel.owner ≡ None) ⊎ (is_fair post.channel.kind ≡ true)
 
 -- an outcome whose message doesn't
 abbrev Tells : {X : Type 0} → Outcome X → Type 0
@@ -335,15 +345,183 @@ tells-countdown name countdown.Down count = by (count == 1)
     by false = tt
 tells-countdown name countdown.Count count = tt
 
-pub post-names_no_owner : (objects : Objects) (moment : ℕ) (op : Op)
-    → NamesNoOwner (post_of objects moment op)
-post-names_no_owner objects moment op = by op.call
+-- Fair locks.
+
+abbrev IsFairPost : Option Post → Type 0
+IsFairPost None = Unit {0}
+IsFairPost (Some post) = is_fair post.channel.kind ≡ true
+
+first-fair : (name : List ℕ) (queue : List FairPlace) → IsFairPost (first_post name queue)
+first-fair name [] = tt
+first-fair name (place ∷ rest) = refl
+
+module _ {X : Type 0} where
+  leased-fair : (lease : ℕ) (object : X) (outcome : Outcome X) → IsFairPost outcome.post
+      → IsFairPost (with_lease lease object outcome).post
+  leased-fair lease object outcome tells = by (is_lease lease)
+    where
+      by : (is : Bool)
+          → IsFairPost (if is then outcome else silent_outcome replies.BadLease object).post
+      by true = tells
+      by false = tt
+
+wait-fair : (moment wait : ℕ) (owner : ThreadOfClient) (queues : Bool) (held : Option Hold)
+    (queue : List FairPlace) → IsFairPost (wait_for moment owner wait queues held queue).post
+wait-fair moment wait owner false held queue = tt
+wait-fair moment wait owner true held queue = by (place_of owner queue)
   where
-    by : (call : Call) → NamesNoOwner (answer_call objects moment op.name call).post
-    by (calls.Lock call) = tells-lock op.name moment call (objects.mutexes op.name)
+    by_room : (room : Bool)
+        → IsFairPost
+        (if room
+        then silent_outcome {X = FairLock} (replies.Busy wait)
+        (record {
+          held = held;
+          queue = with_last_place owner (moment + wait + place_wait) queue;
+        })
+        else silent_outcome {X = FairLock} replies.TooMany
+        (record { held = held; queue = queue })).post
+    by_room true = tt
+    by_room false = tt
+
+    by : (own : Option FairPlace) → IsFairPost (wait_with moment owner wait held queue own).post
+    by None = by_room (nat_lt (length queue) member_limit)
+    by (Some own) = tt
+
+hold-fair : (moment lease : ℕ) (owner : ThreadOfClient) (held : Option Hold)
+    → IsFairPost (take_hold moment owner lease held).post
+hold-fair moment lease owner None = tt
+hold-fair moment lease owner (Some hold) = by (same_owner hold.owner owner) (hold.count == hold_limit)
+  where
+    by : (own full : Bool)
+        → IsFairPost
+        (if own
+        then (if full then silent_outcome replies.TooDeep (Some hold)
+        else holding replies.Granted owner (hold.count + 1) (moment + lease))
+        else silent_outcome (replies.Busy (hold.deadline - moment)) (Some hold)).post
+    by true true = tt
+    by true false = tt
+    by false full = tt
+
+turn-fair : (moment lease : ℕ) (owner : ThreadOfClient) (queues : Bool) (queue : List FairPlace)
+    → IsFairPost (take_turn moment owner lease queues queue).post
+turn-fair moment lease owner queues [] = tt
+turn-fair moment lease owner queues (place ∷ rest) = by (is_place_of owner place)
+  where
+    by : (own : Bool)
+        → IsFairPost
+        (if own then with_queue rest (take_hold moment owner lease None)
+        else wait_for moment owner (min place_wait (place.stale - moment)) queues None
+        (place ∷ rest)).post
+    by true = tt
+    by false =
+        wait-fair moment (min place_wait (place.stale - moment)) owner queues None (place ∷ rest)
+
+take-fair : (moment lease : ℕ) (owner : ThreadOfClient) (queues : Bool) (queue : List FairPlace)
+    (held : Option Hold) → IsFairPost (take_fair moment owner lease queues queue held).post
+take-fair moment lease owner queues queue None = turn-fair moment lease owner queues queue
+take-fair moment lease owner queues queue (Some hold) = by (same_owner hold.owner owner)
+  where
+    by : (own : Bool)
+        → IsFairPost
+        (if own then with_queue queue (take_hold moment owner lease (Some hold))
+        else wait_for moment owner (hold.deadline - moment) queues (Some hold) queue).post
+    by true = hold-fair moment lease owner (Some hold)
+    by false = wait-fair moment (hold.deadline - moment) owner queues (Some hold) queue
+
+back-fair : (post : Option Post) → IsFairPost post → (moment : ℕ) (owner : ThreadOfClient)
+    (rest : ℕ) (held : Option Hold) → IsFairPost (give_back_hold post moment owner rest held).post
+back-fair post fair moment owner rest None = tt
+back-fair post fair moment owner rest (Some hold) =
+    by (same_owner hold.owner owner) (hold.count == 1)
+  where
+    by : (own last : Bool)
+        → IsFairPost
+        (if own
+        then (if last then freeing post
+        else holding replies.Kept owner (hold.count - 1) (moment + rest))
+        else silent_outcome replies.NotHeld (Some hold)).post
+    by true true = fair
+    by true false = tt
+    by false last = tt
+
+renew-fair : (moment : ℕ) (owner : ThreadOfClient) (lease : ℕ) (held : Option Hold)
+    → IsFairPost (renew_hold moment owner lease held).post
+renew-fair moment owner lease None = tt
+renew-fair moment owner lease (Some hold) = by (same_owner hold.owner owner)
+  where
+    by : (own : Bool)
+        → IsFairPost
+        (if own then holding replies.Renewed owner hold.count (moment + lease)
+        else silent_outcome replies.Lost (Some hold)).post
+    by true = tt
+    by false = tt
+
+leave-fair : (name : List ℕ) (owner : ThreadOfClient) (held : Option Hold)
+    (queue : List FairPlace) → IsFairPost (post_at_leave name owner held queue)
+leave-fair name owner (Some hold) queue = tt
+leave-fair name owner None queue = by (is_first owner queue)
+  where
+    by : (first : Bool)
+        → IsFairPost (if first then first_post name (without_place owner queue) else None)
+    by true = first-fair name (without_place owner queue)
+    by false = tt
+
+leave_with-fair : (name : List ℕ) (owner : ThreadOfClient) (held : Option Hold)
+    (queue : List FairPlace) (own : Option FairPlace)
+    → IsFairPost (leave_with name owner held queue own).post
+leave_with-fair name owner held queue None = tt
+leave_with-fair name owner held queue (Some own) = leave-fair name owner held queue
+
+tells-fair : (name : List ℕ) (moment : ℕ) (call : FairCall) (lock : FairLock)
+    → IsFairPost (fair_call name moment call lock).post
+tells-fair name moment (fair.Try owner lease queues) lock =
+    leased-fair lease lock
+    (take_fair moment owner lease queues (live_places moment lock.queue)
+    (live_hold moment lock.held))
+    (take-fair moment lease owner queues (live_places moment lock.queue)
+    (live_hold moment lock.held))
+tells-fair name moment (fair.Unlock owner rest) lock =
+    leased-fair rest lock
+    (with_queue (live_places moment lock.queue)
+    (give_back_hold (first_post name (live_places moment lock.queue)) moment owner rest
+    (live_hold moment lock.held)))
+    (back-fair (first_post name (live_places moment lock.queue))
+    (first-fair name (live_places moment lock.queue)) moment owner rest
+    (live_hold moment lock.held))
+tells-fair name moment (fair.Leave owner) lock =
+    leave_with-fair name owner (live_hold moment lock.held) (live_places moment lock.queue)
+    (place_of owner (live_places moment lock.queue))
+tells-fair name moment (fair.Renew owner lease) lock =
+    leased-fair lease lock
+    (with_queue lock.queue (renew_hold moment owner lease (live_hold moment lock.held)))
+    (renew-fair moment owner lease (live_hold moment lock.held))
+
+-- All calls.
+
+nameless : (post : Option Post) → NamesNoOwner post → NamesOwnerIfFair post
+nameless None none = tt
+nameless (Some post) none = inl none
+
+of_fair : (post : Option Post) → IsFairPost post → NamesOwnerIfFair post
+of_fair None is = tt
+of_fair (Some post) is = inr is
+
+pub post-names_owner : (objects : Objects) (moment : ℕ) (op : Op)
+    → NamesOwnerIfFair (post_of objects moment op)
+post-names_owner objects moment op = by op.call
+  where
+    by : (call : Call) → NamesOwnerIfFair (answer_call objects moment op.name call).post
+    by (calls.Lock call) =
+        nameless _ (tells-lock op.name moment call (objects.mutexes op.name))
+    by (calls.Fair call) =
+        of_fair _ (tells-fair op.name moment call (objects.fair_locks op.name))
     by (calls.ReadWrite call) =
-        tells-read_write op.name moment call (objects.read_write_locks op.name)
-    by (calls.Fenced call) = tells-fenced op.name moment call (objects.fenced_locks op.name)
-    by (calls.Semaphore call) = tells-semaphore op.name call (objects.semaphores op.name)
-    by (calls.Permits call) = tells-permits op.name moment call (objects.permits op.name)
-    by (calls.Countdown call) = tells-countdown op.name call (objects.countdowns op.name)
+        nameless _ (tells-read_write op.name moment call (objects.read_write_locks op.name))
+    by (calls.Fenced call) =
+        nameless _ (tells-fenced op.name moment call (objects.fenced_locks op.name))
+    by (calls.Semaphore call) =
+        nameless _ (tells-semaphore op.name call (objects.semaphores op.name))
+    by (calls.Permits call) =
+        nameless _ (tells-permits op.name moment call (objects.permits op.name))
+    by (calls.Countdown call) =
+        nameless _ (tells-countdown op.name call (objects.countdowns op.name))

@@ -34,6 +34,8 @@ use Rattle.lr_waiting.specs.Peak.{tells}
 use Rattle.lr_waiting.specs.Session.{channel_for}
 use Rattle.lr_waiting.specs.Stand.{due_by_reply}
 use Rattle.lr_wakeups.specs.Reached.{Present, IsDueBy, EndNoEarlier, leases_of, IsRefusedUntil, WaitsFor, GoesOn, IsLeftWaiting}
+use Rattle.lr_machine_wakeups.specs.WorldFacts.{is_shared}
+use Rattle.lr_machine_wakeups.proofs.Shared.{shared-all}
 use Rattle.lr_machine_wakeups.proofs.CountWaits.{refuses, short-call, short-due, latch_refuses, counting-call, counting-due}
 use Rattle.lr_machine_wakeups.proofs.PermitWaits.{IsHeldUntil, held-answered, held-call}
 use Rattle.lr_machine_wakeups.proofs.ReadWriteWaits.{tells-read_write}
@@ -123,6 +125,7 @@ module _ (present : Present) (owner other : ThreadOfClient) (want : Want) (at le
       → WaitsFor function present owner want (due_by_reply at (Some (reply function)))
   left-waiting (functions.Lock f) is all refused = absurd (cc all)
   left-waiting (functions.Fenced f) is all refused = absurd (cc all)
+  left-waiting (functions.Fair f) is all refused = absurd (cc all)
   left-waiting (functions.ReadWrite f) is all refused =
       let told =
       tells-read_write f present.now want.name (read_write_call_of f other lease)
@@ -235,13 +238,20 @@ due-higher peak higher (Some due) le by_peak = omega (arith, le, by_peak)
 module _ (objects : Objects) (now : ℕ) (op : Op) (peak then_ : ChannelOf → ℕ)
     (told : ChannelOf → Bool)
     (peaks : (channel : ChannelOf) → told channel ≡ false → peak channel ≤ then_ channel)
-    (quiet : (channel : ChannelOf) → channel.owner ≡ None → told channel ≡ false
-    → tells channel.kind channel.name (post_of objects now op) ≡ false) where
+    (quiet : (channel : ChannelOf) → is_shared channel ≡ true → told channel ≡ false
+    → tells channel.kind channel.name (post_of objects now op) ≡ false)
+    (left left_then : ChannelOf → Option ℕ) (were are : ChannelOf → Bool) where
   abbrev before : Present
-  before = record { objects = objects; now = now; peak = peak }
+  before = record { objects = objects; now = now; peak = peak; left = left; told = were }
 
   abbrev after : Present
-  after = record { objects = objects_after objects now op; now = now; peak = then_ }
+  after = record {
+    objects = objects_after objects now op;
+    now = now;
+    peak = then_;
+    left = left_then;
+    told = are;
+  }
 
   waits-call : (owner : ThreadOfClient) (want : Want) (due : Option ℕ) (function : Function)
       → want.function ≡ function
@@ -253,6 +263,7 @@ module _ (objects : Objects) (now : ℕ) (op : Op) (peak then_ : ChannelOf → �
       → WaitsFor function before owner want due → WaitsFor function after owner want due
   waits-call owner want due (functions.Lock f) is all untold silent waits = absurd (cc all)
   waits-call owner want due (functions.Fenced f) is all untold silent waits = absurd (cc all)
+  waits-call owner want due (functions.Fair f) is all untold silent waits = absurd (cc all)
   waits-call owner want due (functions.ReadWrite f) is all untold silent waits =
       due-higher (peak (channel_for owner want)) (then_ (channel_for owner want)) due
       (peaks (channel_for owner want) untold) waits
@@ -274,13 +285,19 @@ module _ (objects : Objects) (now : ℕ) (op : Op) (peak then_ : ChannelOf → �
   )
 
   pub call-goes_on : GoesOn told
-      (record { objects = objects; now = now; peak = peak })
-      (record { objects = objects_after objects now op; now = now; peak = then_ })
+      (record { objects = objects; now = now; peak = peak; left = left; told = were })
+      (record {
+        objects = objects_after objects now op;
+        now = now;
+        peak = then_;
+        left = left_then;
+        told = are;
+      })
   call-goes_on = record {
     peaks = peaks;
     waits = λ owner want due all untold waits.
         waits-call owner want due want.function refl all untold
-        (quiet (channel_for owner want) refl untold) waits;
+        (quiet (channel_for owner want) (shared-all owner want all) untold) waits;
   }
 
 -- Time.
@@ -293,14 +310,22 @@ until-later objects now later owner want due le waits = record {
   in_time = λ moment from before. waits.in_time moment (omega (arith, le, from)) before;
 }
 
-module _ (objects : Objects) (now later : ℕ) (peak : ChannelOf → ℕ) (le : now ≤ later) where
+module _ (objects : Objects) (now later : ℕ) (peak : ChannelOf → ℕ) (le : now ≤ later)
+    (left left_then : ChannelOf → Option ℕ) (were are : ChannelOf → Bool) where
+  abbrev sooner : Present
+  sooner = record { objects = objects; now = now; peak = peak; left = left; told = were }
+
+  abbrev later_on : Present
+  later_on = record { objects = objects; now = later; peak = peak; left = left_then; told = are }
+
   waits-later : (owner : ThreadOfClient) (want : Want) (due : Option ℕ) (function : Function)
-      → WaitsFor function (record { objects = objects; now = now; peak = peak }) owner want due
-      → WaitsFor function (record { objects = objects; now = later; peak = peak }) owner want due
+      → WaitsFor function sooner owner want due → WaitsFor function later_on owner want due
   waits-later owner want due (functions.ReadWrite f) waits = waits
   waits-later owner want due (functions.Permits f) waits =
       until-later objects now later owner want due le waits
   waits-later owner want due (functions.Lock f) waits =
+      (waits.0, until-later objects now later owner want None le waits.1)
+  waits-later owner want due (functions.Fair f) waits =
       (waits.0, until-later objects now later owner want None le waits.1)
   waits-later owner want due (functions.Fenced f) waits =
       (waits.0, until-later objects now later owner want None le waits.1)
@@ -310,8 +335,8 @@ module _ (objects : Objects) (now later : ℕ) (peak : ChannelOf → ℕ) (le : 
       (waits.0, until-later objects now later owner want None le waits.1)
 
   pub time-goes_on : GoesOn (λ channel. false)
-      (record { objects = objects; now = now; peak = peak })
-      (record { objects = objects; now = later; peak = peak })
+      (record { objects = objects; now = now; peak = peak; left = left; told = were })
+      (record { objects = objects; now = later; peak = peak; left = left_then; told = are })
   time-goes_on = record {
     peaks = λ channel untold. omega arith;
     waits = λ owner want due all untold waits.

@@ -18,11 +18,13 @@ use Rattle.lr_model.proofs.SameChannel.{same_is}
 use Rattle.lr_wakeups.specs.Registered.{registered_with, is_registered}
 use Rattle.lr_wakeups.specs.Joining.{FitsStage, IsPlaced, PlacedWith, PlacedIn}
 use Rattle.lr_wakeups.specs.Answered.{is_asked_at, asked_with}
+use Rattle.lr_wakeups.specs.Queued.{QueuedWith}
 use Rattle.lr_wakeups.specs.Reached.{Present, ReachedWith}
 use Rattle.lr_wakeups.specs.Standing.{blocked_with, is_blocked}
 use Rattle.lr_wakeups.proofs.EntryChanges.{ChangesEntry}
-use Rattle.lr_wakeups.proofs.Joining.{placed_on}
+use Rattle.lr_wakeups.proofs.Joining.{gives_up_with, placed_on}
 use Rattle.lr_wakeups.proofs.Reached.{reached_free}
+use Rattle.lr_wakeups.proofs.Queued.{queued_free}
 use Rattle.lr_wakeups.proofs.Threads.{seen_alike, registered_local, blocked_local, awake_local, due_local}
 
 -- What a request that joins isn't.
@@ -163,6 +165,35 @@ module _ (channel : ChannelOf) (client : Client) where
           (client.replies thread))
           (sym now) reached
 
+  pub joined_queued : (present : Present) (outbox : List Push) (thread : ℕ)
+      → QueuedWith present client.session.client
+      (acknowledge_at channel client.session.latches).entries outbox thread
+      (client.replies thread) (waiter_in client thread)
+      → QueuedWith present client.session.client
+      (acknowledge_at channel client.session.latches).entries outbox thread
+      (client.replies thread) (waiter_in (joined_client channel client) thread)
+  joined_queued present outbox thread queued = by (joins_or_stays thread)
+    where
+      by : JoinsOrStays channel client thread (waiter_in (joined_client channel client) thread)
+          → QueuedWith present client.session.client
+          (acknowledge_at channel client.session.latches).entries outbox thread
+          (client.replies thread) (waiter_in (joined_client channel client) thread)
+      by (Joins waiter turn was joining own now) =
+          subst
+          (QueuedWith present client.session.client
+          (acknowledge_at channel client.session.latches).entries outbox thread
+          (client.replies thread))
+          (sym now)
+          (queued_free present client.session.client thread
+          (acknowledge_at channel client.session.latches).entries outbox (client.replies thread)
+          (at_stage (Ready turn) waiter) refl)
+      by (Stays other now) =
+          subst
+          (QueuedWith present client.session.client
+          (acknowledge_at channel client.session.latches).entries outbox thread
+          (client.replies thread))
+          (sym now) queued
+
   pub joined_awake : (q : ChannelOf) (thread : ℕ) → is_awake q client thread ≡ true
       → is_awake q (joined_client channel client) thread ≡ true
   joined_awake q thread awake = by (joins_or_stays thread)
@@ -250,7 +281,7 @@ module _ (channel : ChannelOf) (client : Client) where
               (at_stage (Ready turn) waiter)
           here = record {
             fits = joining_fits waiter.stage waiter.registered joining old.fits;
-            joining = λ inside.
+            joining = λ inside stays.
                 ap not
                 (sym
                 (ap (λ c. is_subscribed ((acknowledge_at channel client.session.latches).entries c))
@@ -263,9 +294,10 @@ module _ (channel : ChannelOf) (client : Client) where
           -- nobody who is registered there stays
           nobody : (found : Option Waiter) → waiter_in client thread ≡ found
               → registered_with channel client thread found ≡ true
+              → gives_up_with found ≡ false
               → PlacedWith client.session thread found → ⊥
-          nobody None was there old = false≢true there
-          nobody (Some waiter) was there old =
+          nobody None was there stays old = false≢true there
+          nobody (Some waiter) was there stays old =
               let parts = and_parts waiter.registered
               (same_channel channel (channel_in client.session thread waiter)) there in
               let at : is_subscribed
@@ -275,16 +307,17 @@ module _ (channel : ChannelOf) (client : Client) where
               (sym (same_is channel (channel_in client.session thread waiter) parts.1))
               ∙ silent in
               let joining : is_joining_at waiter.stage ≡ true =
-              old.joining parts.0 ∙ ap not at in
+              old.joining parts.0 stays ∙ ap not at in
               false≢true
               (sym other
               ∙ ap (joins channel client.session thread) was
               ∙ (λ i. joining i && parts.1 i))
 
           heard : (q : ChannelOf) → is_registered q client thread ≡ true
+              → gives_up_with (waiter_in client thread) ≡ false
               → is_subscribed ((acknowledge_at channel client.session.latches).entries q)
               ≡ is_subscribed (client.session.latches.entries q)
-          heard q there = by_test (same_channel q channel) refl
+          heard q there stays = by_test (same_channel q channel) refl
             where
               by_test : (b : Bool) → same_channel q channel ≡ b
                   → is_subscribed ((acknowledge_at channel client.session.latches).entries q)
@@ -294,4 +327,4 @@ module _ (channel : ChannelOf) (client : Client) where
                   absurd
                   (nobody (waiter_in client thread) refl
                   (ap (λ c. is_registered c client thread) (sym (same_is q channel e)) ∙ there)
-                  placed.placed)
+                  stays placed.placed)

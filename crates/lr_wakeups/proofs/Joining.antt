@@ -12,7 +12,7 @@ use Rattle.lr_waiting.specs.Session.{at_stage, channel_in, channel_for, owner_in
 use Rattle.lr_waiting.specs.Client.{Client, waiter_in}
 use Rattle.lr_model.proofs.SameChannel.{same_is, same_self}
 use Rattle.lr_wakeups.specs.Registered.{registered_with, is_registered, IsCounted}
-use Rattle.lr_wakeups.specs.Joining.{FitsStage, IsPlaced, PlacedWith, PlacedIn}
+use Rattle.lr_wakeups.specs.Joining.{FitsStage, gives_up_at, IsPlaced, PlacedWith, PlacedIn}
 use Rattle.lr_wakeups.proofs.EntryChanges.{ChangesEntry, heard_left, heard_registered}
 use Rattle.lr_wakeups.proofs.Registered.{counts_one, counts_two}
 use Rattle.lr_wakeups.proofs.Threads.{ChangesThread}
@@ -27,11 +27,17 @@ registered_there client thread waiter was inside =
     (same_channel (channel_in client.session thread waiter) (channel_in client.session thread waiter))
     inside (same_self (channel_in client.session thread waiter))
 
+-- whether a thread gives its place in a queue up
+abbrev pub gives_up_with : Option Waiter → Bool
+gives_up_with None = false
+gives_up_with (Some waiter) = gives_up_at waiter.stage waiter.want.function
+
 -- a thread stays placed where its client hears its channel as before
 pub placed_on : (before after : Client) (thread : ℕ) → thread ≤ thread_limit
     → after.session.client ≡ before.session.client
     → waiter_in after thread ≡ waiter_in before thread
     → ((q : ChannelOf) → is_registered q before thread ≡ true
+    → gives_up_with (waiter_in before thread) ≡ false
     → is_subscribed (after.session.latches.entries q)
     ≡ is_subscribed (before.session.latches.entries q))
     → PlacedIn before thread → PlacedIn after thread
@@ -45,15 +51,15 @@ placed_on before after thread within id same heard placed = record {
     by None was old = tt
     by (Some waiter) was old = record {
       fits = old.fits;
-      joining = λ inside.
-          old.joining inside
+      joining = λ inside stays.
+          old.joining inside stays
           ∙ ap not
           (sym
           (ap is_subscribed
           (λ i. after.session.latches.entries
           (channel_for (record { client = id i; thread = thread }) waiter.want))
           ∙ heard (channel_in before.session thread waiter)
-          (registered_there before thread waiter was inside)));
+          (registered_there before thread waiter was inside) (ap gives_up_with was ∙ stays)));
     }
 
 -- one thread changes, and its own request is placed
@@ -75,8 +81,8 @@ placed_changes thread found reply before after changes own heard placed t within
     own_in None old = tt
     own_in (Some waiter) old = record {
       fits = old.fits;
-      joining = λ inside.
-          old.joining inside
+      joining = λ inside stays.
+          old.joining inside stays
           ∙ ap (λ x. not (is_subscribed x))
           (sym
           (λ i. after.session.latches.entries
@@ -91,7 +97,7 @@ placed_changes thread found reply before after changes own heard placed t within
         })
     by (inr apart) =
         placed_on before after t within changes.id (changes.waiters t apart)
-        (heard t within apart) (placed t within)
+        (λ q there stays. heard t within apart q there) (placed t within)
 
 -- The changes of one thread.
 
@@ -107,7 +113,7 @@ module _ (thread : ℕ) (reply : Option Reply) (before after : Client) (within :
       placed_changes thread (Some waiter) reply before after changes
       (record {
         fits = fits;
-        joining = λ inside. absurd (false≢true (sym outside ∙ inside));
+        joining = λ inside stays. absurd (false≢true (sym outside ∙ inside));
       })
       (λ t under apart q there. heard q) placed
 
@@ -127,20 +133,23 @@ module _ (thread : ℕ) (reply : Option Reply) (before after : Client) (within :
         (placed thread within).placed in
         subst (PlacedWith before.session thread) was here
 
-    -- a request comes to another stage, and joins neither before nor then
+    -- A request comes to another stage, and joins then as it did. One that gives its place up may
+    -- join or not.
     pub place_restaged : (stage : Stage)
         → ChangesThread thread (Some (at_stage stage waiter)) reply before after
         → FitsStage stage waiter.registered
-        → is_joining_at waiter.stage ≡ false → is_joining_at stage ≡ false
+        → (gives_up_at stage waiter.want.function ≡ false
+        → (gives_up_at waiter.stage waiter.want.function ≡ false)
+        × (is_joining_at stage ≡ is_joining_at waiter.stage))
         → ((q : ChannelOf) → is_subscribed (after.session.latches.entries q)
         ≡ is_subscribed (before.session.latches.entries q))
         → (t : ℕ) → t ≤ thread_limit → PlacedIn after t
-    place_restaged stage changes fits old new heard =
+    place_restaged stage changes fits joins heard =
         placed_changes thread (Some (at_stage stage waiter)) reply before after changes
         (record {
           fits = fits;
-          joining = λ inside.
-              new ∙ sym old ∙ placed_was.joining inside
+          joining = λ inside stays.
+              (joins stays).1 ∙ placed_was.joining inside (joins stays).0
               ∙ ap not (sym (heard (channel_in before.session thread waiter)));
         })
         (λ t under apart q there. heard q) placed
@@ -197,7 +206,7 @@ module _ (thread : ℕ) (reply : Option Reply) (before after : Client) (within :
           placed_changes thread (Some joined) reply before after changes
           (record {
             fits = fits;
-            joining = λ inside.
+            joining = λ inside stays.
                 joining
                 ∙ ap (λ x. not (is_subscribed x))
                 (sym entry.here

@@ -4,6 +4,7 @@ pub mod Threads
 pub mod Entries
 pub mod EntryChanges
 pub mod Registered
+pub mod FairChannels
 pub mod Subscriptions
 pub mod ChannelFacts
 pub mod Outstanding
@@ -16,9 +17,11 @@ pub mod Standing
 pub mod Joined
 pub mod Relatched
 pub mod Reached
+pub mod Queued
 pub mod LatchFacts
 pub mod ThreadSteps
 pub mod Rows
 pub mod ServerSteps
 pub mod Stands
+pub mod Turns
 pub mod Peaks

@@ -6,11 +6,9 @@ use Rattle.std.proofs.lemmas.Bool.Decides.{same_from_decides, Decides-like}
 use Rattle.std.proofs.lemmas.Slice.Eq.{bytes_eq-Decides}
 use Rattle.std.proofs.lemmas.Option.{same_Some}
 use Rattle.lr_limits.specs.Limits.{hold_limit, token_limit}
-use Rattle.lr_names.specs.Channel.{channel_wakes}
 use Rattle.lr_names.specs.Owner.{ThreadOfClient, same_owner}
 use Rattle.lr_names.specs.declared.kind.Kind.{Kind}
 use Rattle.lr_names.specs.declared.kind.Kind.TheVariants as kinds
-use Rattle.lr_names.specs.declared.kind.Wakes.TheVariants.{One, All}
 use Rattle.lr_names.specs.declared.post.Post.{Post}
 use Rattle.lr_objects.specs.Op.{kind_of, name_of, call_on}
 use Rattle.lr_objects.specs.declared.fenced.FencedCall.{FencedCall}
@@ -37,6 +35,7 @@ use Rattle.lr_model.specs.Table.{put}
 use Rattle.lr_model.specs.Tenure.{lease_in}
 use Rattle.lr_waiting.specs.Peak.{deadline_of, live_until, is_about, tells, gives_deadline, deadline_given, peak_by_call, peak_by_act, peak_after}
 use Rattle.lr_wakeups.specs.Peaks.{EndByThePeak, RefusedUntilThePeak}
+use Rattle.lr_wakeups.specs.Standing.{wakes_one_of_many}
 
 -- what is live later was live before, with its deadline
 live_later : (m n : ℕ) (held : Option Hold) → m ≤ n
@@ -320,18 +319,15 @@ abbrev EndsBy : Kind → List ℕ → ℕ → Objects → ℕ → Type 0
 EndsBy kind name moment objects peak =
     (m : ℕ) → moment ≤ m → live_until objects kind name m ≤ peak
 
-not_one : All ≡ One → ⊥
-not_one e = absurd (cc e)
-
 -- a call keeps that
-by_call : (kind : Kind) → channel_wakes kind ≡ One → (name : List ℕ) (state : State)
+by_call : (kind : Kind) → wakes_one_of_many kind ≡ true → (name : List ℕ) (state : State)
     (moment : ℕ) (op : Op) (peak : ℕ) → EndsBy kind name moment state.objects peak
     → EndsBy kind name moment (objects_after state.objects moment op)
     (peak_by_call kind name state moment op peak)
 by_call kind one name state moment op peak ends =
     by (tells kind name (post_of state.objects moment op)) kind one ends
   where
-    by : (told : Bool) (k : Kind) → channel_wakes k ≡ One → EndsBy k name moment state.objects peak
+    by : (told : Bool) (k : Kind) → wakes_one_of_many k ≡ true → EndsBy k name moment state.objects peak
         → EndsBy k name moment (objects_after state.objects moment op)
         (if told then live_until (objects_after state.objects moment op) k name moment
         else if is_about k name op
@@ -343,14 +339,13 @@ by_call kind one name state moment op peak ends =
         live_later moment m ((objects_after state.objects moment op).fenced_locks name).held le
     by false kinds.Mutex is below = plain_after name state moment peak op.name op.call below
     by false kinds.Fenced is below = fenced_after name state moment peak op.name op.call below
-    by true kinds.Fair is below = λ m le. omega arith
-    by false kinds.Fair is below = λ m le. omega arith
-    by told kinds.Rw is below = absurd (not_one is)
-    by told kinds.Semaphore is below = absurd (not_one is)
-    by told kinds.Permits is below = absurd (not_one is)
-    by told kinds.Countdown is below = absurd (not_one is)
+    by told kinds.Fair is below = absurd (false≢true is)
+    by told kinds.Rw is below = absurd (false≢true is)
+    by told kinds.Semaphore is below = absurd (false≢true is)
+    by told kinds.Permits is below = absurd (false≢true is)
+    by told kinds.Countdown is below = absurd (false≢true is)
 
-by_act : (kind : Kind) → channel_wakes kind ≡ One → (name : List ℕ) (state : State)
+by_act : (kind : Kind) → wakes_one_of_many kind ≡ true → (name : List ℕ) (state : State)
     (moment : ℕ) (act : Act) (peak : ℕ) → EndsBy kind name moment state.objects peak
     → EndsBy kind name moment (objects_by state moment act)
     (peak_by_act kind name state moment act peak)
@@ -358,7 +353,7 @@ by_act kind one name state moment (acts.Call op) peak ends =
     by_call kind one name state moment op peak ends
 by_act kind one name state moment _ peak ends = ends
 
-by_history : (kind : Kind) → channel_wakes kind ≡ One → (name : List ℕ) (entries : List Entry)
+by_history : (kind : Kind) → wakes_one_of_many kind ≡ true → (name : List ℕ) (entries : List Entry)
     (state : State) (peak : ℕ) → IsLegal state entries
     → EndsBy kind name state.moment state.objects peak
     → EndsBy kind name (after state entries).moment (after state entries).objects
@@ -371,15 +366,15 @@ by_history kind one name (entry ∷ entries) state peak legal ends =
     (λ m le. ends m (omega (arith, legal.0.in_time, le))))
 
 -- before the first entry nothing is held
-nothing_held : (kind : Kind) → channel_wakes kind ≡ One → (name : List ℕ) (last : ℕ)
+nothing_held : (kind : Kind) → wakes_one_of_many kind ≡ true → (name : List ℕ) (last : ℕ)
     → EndsBy kind name 0 (state_at_start last).objects 0
 nothing_held kinds.Mutex one name last = λ m le. omega arith
-nothing_held kinds.Fair one name last = λ m le. omega arith
+nothing_held kinds.Fair one name last = absurd (false≢true one)
 nothing_held kinds.Fenced one name last = λ m le. omega arith
-nothing_held kinds.Rw one name last = absurd (not_one one)
-nothing_held kinds.Semaphore one name last = absurd (not_one one)
-nothing_held kinds.Permits one name last = absurd (not_one one)
-nothing_held kinds.Countdown one name last = absurd (not_one one)
+nothing_held kinds.Rw one name last = absurd (false≢true one)
+nothing_held kinds.Semaphore one name last = absurd (false≢true one)
+nothing_held kinds.Permits one name last = absurd (false≢true one)
+nothing_held kinds.Countdown one name last = absurd (false≢true one)
 
 pub end_by_the_peak : (last : ℕ) (entries : List Entry) → IsLegal (state_at_start last) entries
     → EndByThePeak (state_at_start last) entries
@@ -546,12 +541,12 @@ module _ (moment millis : ℕ) where
   fenced_busy key fenced.Token object = λ busy. absurd (cc busy)
 
   call_busy : (objects : Objects) (key : List ℕ) (call : Call)
-      → channel_wakes (kind_of (call_on key call)) ≡ One
+      → wakes_one_of_many (kind_of (call_on key call)) ≡ true
       → IsBusy (reply_of objects moment (call_on key call))
       → moment + millis ≤ live_until objects (kind_of (call_on key call)) key moment
   call_busy objects key (calls.Lock call) one = lock_busy key call (objects.mutexes key)
   call_busy objects key (calls.Fenced call) one = fenced_busy key call (objects.fenced_locks key)
-  call_busy objects key _ one = absurd (not_one one)
+  call_busy objects key _ one = absurd (false≢true one)
 
 pub refused_until_the_peak : (last : ℕ) (entries : List Entry)
     → IsLegal (state_at_start last) entries → RefusedUntilThePeak (state_at_start last) entries

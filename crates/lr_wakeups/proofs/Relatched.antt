@@ -1,8 +1,7 @@
 -- Only the latches of a client change: its threads stay.
 use Rattle.std.proofs.Common.{◌≡◌, ℕ, ◌<◌, ◌≤◌, true, Some, refl, sym, ◌∙◌}
 use Rattle.lr_limits.specs.Limits.{thread_limit}
-use Rattle.lr_names.specs.Channel.{ChannelOf, channel_wakes}
-use Rattle.lr_names.specs.declared.kind.Wakes.TheVariants.{One}
+use Rattle.lr_names.specs.Channel.{ChannelOf}
 use Rattle.lr_model.specs.Board.{Connection}
 use Rattle.lr_waiting.specs.Latch.{Latches, is_subscribed}
 use Rattle.lr_waiting.specs.Session.{with_latches}
@@ -11,7 +10,7 @@ use Rattle.lr_waiting.specs.Stand.{in_flight, awake_with, is_awake, due_with, du
 use Rattle.lr_wakeups.specs.Registered.{registered_with, IsCounted}
 use Rattle.lr_wakeups.specs.Joining.{PlacedIn}
 use Rattle.lr_wakeups.specs.Answered.{HasReplyIfAsked}
-use Rattle.lr_wakeups.specs.Standing.{blocked_with, is_blocked, Stands, IsCovered, ByMessage, ByPermit, ByAwake, ByTimer}
+use Rattle.lr_wakeups.specs.Standing.{wakes_one_of_many, blocked_with, is_blocked, Stands, IsCovered, ByMessage, ByPermit, ByAwake, ByTimer}
 use Rattle.lr_wakeups.proofs.Registered.{counts_same}
 use Rattle.lr_wakeups.proofs.Joining.{placed_on}
 use Rattle.lr_wakeups.proofs.Standing.{covered_alike}
@@ -30,13 +29,13 @@ pub cover_threads : (peak : ℕ) (q : ChannelOf) (before after : Client)
     → ((t m : ℕ) → due_of q before t ≡ Some m → due_of q after t ≡ Some m)
     → (0 < (before.session.latches.entries q).permits
     → 0 < (after.session.latches.entries q).permits)
-    → (channel_wakes q.kind ≡ One → (t : ℕ) → t ≤ thread_limit → is_blocked q before t ≡ true
+    → (wakes_one_of_many q.kind ≡ true → (t : ℕ) → t ≤ thread_limit → is_blocked q before t ≡ true
     → in_flight q connection.outbox ≡ true → Stands peak q after then_)
     → IsCovered peak q before connection → IsCovered peak q after then_
 cover_threads peak q before after connection then_ blocked awake due permit message =
     covered_alike peak peak q before after connection then_ blocked carry
   where
-    carry : channel_wakes q.kind ≡ One → (t : ℕ) → t ≤ thread_limit
+    carry : wakes_one_of_many q.kind ≡ true → (t : ℕ) → t ≤ thread_limit
         → is_blocked q before t ≡ true → Stands peak q before connection
         → Stands peak q after then_
     carry one t within is (ByMessage some) = message one t within is some
@@ -58,7 +57,7 @@ module _ (latches : Latches) (client : Client) where
       ≡ is_subscribed (client.session.latches.entries q))
       → (t : ℕ) → t ≤ thread_limit → PlacedIn client t → PlacedIn (relatched latches client) t
   place_relatched heard t within =
-      placed_on client (relatched latches client) t within refl refl (λ q there. heard q)
+      placed_on client (relatched latches client) t within refl refl (λ q there stays. heard q)
 
   pub answer_relatched : (t : ℕ) → HasReplyIfAsked client t
       → HasReplyIfAsked (relatched latches client) t
@@ -66,7 +65,7 @@ module _ (latches : Latches) (client : Client) where
 
   pub cover_relatched : (peak : ℕ) (q : ChannelOf) (connection then_ : Connection)
       → (0 < (client.session.latches.entries q).permits → 0 < (latches.entries q).permits)
-      → (channel_wakes q.kind ≡ One → (t : ℕ) → t ≤ thread_limit → is_blocked q client t ≡ true
+      → (wakes_one_of_many q.kind ≡ true → (t : ℕ) → t ≤ thread_limit → is_blocked q client t ≡ true
       → in_flight q connection.outbox ≡ true → Stands peak q (relatched latches client) then_)
       → IsCovered peak q client connection → IsCovered peak q (relatched latches client) then_
   cover_relatched peak q connection then_ =

@@ -1,10 +1,12 @@
 -- All facts after each row of a thread.
-use Rattle.std.proofs.Common.{◌≡◌, ℕ, suc, ◌<◌, ◌≤◌, ◌^◌, Bool, true, false, not, Option, Some, None, refl, ap, sym, ◌∙◌, subst, arith, if◌then◌else◌}
+use Rattle.std.proofs.Common.{◌≡◌, ℕ, suc, ◌<◌, ◌≤◌, ◌^◌, Bool, true, false, not, Option, Some, None, is_some, refl, ap, sym, ◌∙◌, subst, arith, if◌then◌else◌}
 use Rattle.std.specs.Option.{option_map}
-use Rattle.std.proofs.lemmas.Bool.{and_parts}
+use Rattle.std.proofs.lemmas.Bool.{and_parts, false≢true}
 use Rattle.std.proofs.lemmas.Option.{same_Some}
 use Rattle.lr_limits.specs.Limits.{thread_limit}
 use Rattle.lr_objects.specs.Reply.{blocks}
+use Rattle.lr_objects.specs.declared.kinds.Function.{Function}
+use Rattle.lr_objects.specs.declared.kinds.Function.TheVariants as functions
 use Rattle.lr_objects.specs.declared.reply.Reply.{Reply}
 use Rattle.lr_objects.specs.declared.reply.Reply.TheVariants as replies
 use Rattle.lr_objects.specs.declared.want.Mode.{Mode}
@@ -22,9 +24,10 @@ use Rattle.lr_waiting.specs.declared.watch.Watch.{Watch}
 use Rattle.lr_waiting.specs.declared.watch.WatchKey.{WatchKey}
 use Rattle.lr_model.specs.Board.{Connection}
 use Rattle.lr_waiting.specs.Latch.{is_subscribed, is_due, next_count, take_permit_at, register_in, register_at, leave_at, checked_in, woken_in}
-use Rattle.lr_waiting.specs.Session.{Session, owner_in, with_waiter, with_stage, with_ticket, with_latches, without_waiter, of_waiter, begin_at, begin_row, new_waiter, ask_at, ask_row, asking_for, leaving_want, leaving_function, may_wait, waits_for, channel_in, entry_for, key_in, is_joining_at, due_after, watch_begun, watch_ended, watched_by, refused, registered, take_at, take_row, checked, check_at, check_row, woken, wake_at, wake_row, fire_at, fire_row, quit_at, quit_row}
+use Rattle.lr_waiting.specs.Session.{Session, owner_in, with_waiter, with_stage, with_ticket, with_latches, without_waiter, of_waiter, begin_at, begin_row, new_waiter, ask_at, ask_row, asking_for, leaving_want, leaving_function, may_wait, waits_for, channel_in, entry_for, key_in, is_joining_at, due_after, watch_begun, watch_ended, watched_by, refused, registered, take_at, take_row, checked, check_at, check_row, woken, wake_at, wake_row, fire_at, fire_row, given_up, quit, quit_at, quit_row}
 use Rattle.lr_waiting.specs.Client.{Client, waiter_in, client_row, with_reply, asked_at, asked_by, asked_of, take_with, take_reply}
-use Rattle.lr_wakeups.specs.Joining.{FitsStage}
+use Rattle.lr_wakeups.specs.Joining.{FitsStage, is_queue_leave, gives_up_at}
+use Rattle.lr_wakeups.specs.Queued.{IsLeftQueued}
 use Rattle.lr_wakeups.specs.Answered.{is_asked_at}
 use Rattle.lr_wakeups.specs.Standing.{IsInTime}
 use Rattle.lr_wakeups.specs.Reached.{Present, IsLeftWaiting}
@@ -33,7 +36,7 @@ use Rattle.lr_wakeups.proofs.LatchFacts.{latch_facts_later}
 use Rattle.lr_wakeups.proofs.Threads.{changes_waiter, changes_both}
 use Rattle.lr_wakeups.proofs.Joining.{placed_was}
 use Rattle.lr_wakeups.proofs.Answered.{no_reply}
-use Rattle.lr_wakeups.proofs.ThreadSteps.{latch_facts, begun, awoken, permitted, slept, answered, refused_again, ended, left, registers}
+use Rattle.lr_wakeups.proofs.ThreadSteps.{latch_facts, begun, awoken, permitted, slept, gave_up, answered, refused_again, ended, left, registers}
 
 never : {A : Type 0} (x : A) → None ≡ Some x → ⊥
 never x e = absurd (cc e)
@@ -53,6 +56,7 @@ facts_later n present client connection facts = record {
   covered = facts.covered;
   few = λ q. omega (arith, facts.few q);
   reached = facts.reached;
+  queued = facts.queued;
 }
 
 -- a row that applies
@@ -155,26 +159,43 @@ module _ (n : ℕ) (present : Present) (client : Client) (connection : Connectio
       session (With session) (λ waiter was f. by waiter was waiter.stage refl session f) e)
     where
       asks : (waiter : Waiter) → waiter_in client thread ≡ Some waiter → (want : Want)
+          → (is_queue_leave (asking_for thread moment want waiter client.session).op.call ≡ false
+          → gives_up_at waiter.stage waiter.want.function ≡ false)
           → is_joining_at waiter.stage ≡ false → is_asked_at waiter.stage ≡ false
           → With (with_stage thread waiter
           (Asked (asking_for thread moment want waiter client.session)) client.session)
-      asks waiter was want old not_asked =
+      asks waiter was want stays old not_asked =
           awoken n present client connection facts thread within waiter was
-          (Asked (asking_for thread moment want waiter client.session)) client.session.turn tt old
-          refl not_asked refl (omega arith)
+          (Asked (asking_for thread moment want waiter client.session)) client.session.turn tt
+          (λ asked. (stays asked, sym old)) not_asked refl (omega arith)
+
+      -- what leaves asks to leave
+      leaves : (turn : ℕ) (want : Want) (waiter : Waiter) (function : Function)
+          → want.function ≡ function
+          → is_queue_leave
+          (asking_for thread moment (leaving_want want (leaving_function function)) waiter
+          client.session).op.call ≡ false
+          → gives_up_at (Leaving turn) function ≡ false
+      leaves turn want waiter (functions.Fair f) is asked = absurd (false≢true (sym asked))
+      leaves turn want waiter _ is asked = refl
 
       by : (waiter : Waiter) → waiter_in client thread ≡ Some waiter → (stage : Stage)
           → waiter.stage ≡ stage → (session : Session)
           → ask_at thread moment client.session waiter stage ≡ Some session → With session
       by waiter was (Fresh turn) e session f =
           reached _ session
-          (asks waiter was waiter.want (ap is_joining_at e) (ap is_asked_at e)) f
+          (asks waiter was waiter.want (λ asked. ap (λ s. gives_up_at s waiter.want.function) e)
+          (ap is_joining_at e) (ap is_asked_at e)) f
       by waiter was (Ready turn) e session f =
           reached _ session
-          (asks waiter was waiter.want (ap is_joining_at e) (ap is_asked_at e)) f
+          (asks waiter was waiter.want (λ asked. ap (λ s. gives_up_at s waiter.want.function) e)
+          (ap is_joining_at e) (ap is_asked_at e)) f
       by waiter was (Leaving turn) e session f =
           reached _ session
           (asks waiter was (leaving_want waiter.want (leaving_function waiter.want.function))
+          (λ asked.
+          ap (λ s. gives_up_at s waiter.want.function) e
+          ∙ leaves turn waiter.want waiter waiter.want.function refl asked)
           (ap is_joining_at e) (ap is_asked_at e)) f
       by waiter was _ e session f = absurd (never session f)
 
@@ -184,8 +205,10 @@ module _ (n : ℕ) (present : Present) (client : Client) (connection : Connectio
       → IsInTime present.peak client thread waiter asking reply)
       → ((waiter : Waiter) → waiter_in client thread ≡ Some waiter
       → IsLeftWaiting present (owner_in client.session thread) waiter.want asking.at reply)
+      → ((waiter : Waiter) → waiter_in client thread ≡ Some waiter
+      → IsLeftQueued present (owner_in client.session thread) waiter asking reply)
       → Facts n present (with_reply thread (Some reply) client) connection
-  facts_answered asking reply asked in_time waits =
+  facts_answered asking reply asked in_time waits left =
       by_found (waiter_in client thread) refl (client.replies thread) asked
     where
       by_stage : (waiter : Waiter) → waiter_in client thread ≡ Some waiter → (stage : Stage)
@@ -194,6 +217,7 @@ module _ (n : ℕ) (present : Present) (client : Client) (connection : Connectio
       by_stage waiter was (Asked other) e None f =
           answered n present client connection facts thread within waiter was asking reply
           (e ∙ ap Asked (same_Some other asking f)) (in_time waiter was) (waits waiter was)
+          (left waiter was)
       by_stage waiter was _ e old f = absurd (never asking f)
 
       by_found : (found : Option Waiter) → waiter_in client thread ≡ found
@@ -216,14 +240,16 @@ module _ (n : ℕ) (present : Present) (client : Client) (connection : Connectio
       (placed_was thread None client client within facts.placed waiter was).fits
 
   module _ (waiter : Waiter) (was : waiter_in client thread ≡ Some waiter)
-      (inside : waiter.registered ≡ true) (old : is_joining_at waiter.stage ≡ false)
+      (inside : waiter.registered ≡ true)
+      (stays : gives_up_at waiter.stage waiter.want.function ≡ false)
+      (old : is_joining_at waiter.stage ≡ false)
       (not_asked : is_asked_at waiter.stage ≡ false) where
     -- it may ask once more
     readied : With (with_ticket thread waiter Ready client.session)
     readied =
         awoken n present client connection facts thread within waiter was
-        (Ready (next_count client.session.turn)) (next_count client.session.turn) inside old refl
-        not_asked refl (omega arith)
+        (Ready (next_count client.session.turn)) (next_count client.session.turn) inside
+        (λ asked. (stays, sym old)) not_asked refl (omega arith)
 
     readied_by_permit : With (with_ticket thread waiter Ready
         (with_latches
@@ -231,8 +257,8 @@ module _ (n : ℕ) (present : Present) (client : Client) (connection : Connectio
         client.session))
     readied_by_permit =
         permitted n present client connection facts thread within waiter was
-        (Ready (next_count client.session.turn)) (next_count client.session.turn) inside inside old
-        refl not_asked refl (omega arith)
+        (Ready (next_count client.session.turn)) (next_count client.session.turn) inside inside
+        (λ asked. (stays, sym old)) not_asked refl (omega arith)
 
   -- check
   pub facts_check : (now : ℕ) (after : Client)
@@ -249,13 +275,16 @@ module _ (n : ℕ) (present : Present) (client : Client) (connection : Connectio
       finds waiter was refusal e checks.Sleep =
           slept n present client connection facts thread within waiter was refusal e
       finds waiter was refusal e checks.Permit =
-          readied_by_permit waiter was (inside_refused waiter was refusal e) (ap is_joining_at e)
+          readied_by_permit waiter was (inside_refused waiter was refusal e)
+          (ap (λ s. gives_up_at s waiter.want.function) e) (ap is_joining_at e)
           (ap is_asked_at e)
       finds waiter was refusal e checks.Broadcast =
-          readied waiter was (inside_refused waiter was refusal e) (ap is_joining_at e)
+          readied waiter was (inside_refused waiter was refusal e)
+          (ap (λ s. gives_up_at s waiter.want.function) e) (ap is_joining_at e)
           (ap is_asked_at e)
       finds waiter was refusal e checks.Timer =
-          readied waiter was (inside_refused waiter was refusal e) (ap is_joining_at e)
+          readied waiter was (inside_refused waiter was refusal e)
+          (ap (λ s. gives_up_at s waiter.want.function) e) (ap is_joining_at e)
           (ap is_asked_at e)
 
       by : (waiter : Waiter) → waiter_in client thread ≡ Some waiter → (stage : Stage)
@@ -282,11 +311,13 @@ module _ (n : ℕ) (present : Present) (client : Client) (connection : Connectio
       finds waiter was refusal e wakings.NotYet session f = absurd (never session f)
       finds waiter was refusal e wakings.Permit session f =
           reached _ session
-          (readied_by_permit waiter was (inside_asleep waiter was refusal e) (ap is_joining_at e)
+          (readied_by_permit waiter was (inside_asleep waiter was refusal e)
+          (ap (λ s. gives_up_at s waiter.want.function) e) (ap is_joining_at e)
           (ap is_asked_at e)) f
       finds waiter was refusal e wakings.Broadcast session f =
           reached _ session
-          (readied waiter was (inside_asleep waiter was refusal e) (ap is_joining_at e)
+          (readied waiter was (inside_asleep waiter was refusal e)
+          (ap (λ s. gives_up_at s waiter.want.function) e) (ap is_joining_at e)
           (ap is_asked_at e)) f
 
       by : (waiter : Waiter) → waiter_in client thread ≡ Some waiter → (stage : Stage)
@@ -312,7 +343,8 @@ module _ (n : ℕ) (present : Present) (client : Client) (connection : Connectio
           ≡ Some session → With session
       by_due waiter was refusal e true session f =
           reached _ session
-          (readied waiter was (inside_asleep waiter was refusal e) (ap is_joining_at e)
+          (readied waiter was (inside_asleep waiter was refusal e)
+          (ap (λ s. gives_up_at s waiter.want.function) e) (ap is_joining_at e)
           (ap is_asked_at e)) f
       by_due waiter was refusal e false session f = absurd (never session f)
 
@@ -332,10 +364,10 @@ module _ (n : ℕ) (present : Present) (client : Client) (connection : Connectio
       of_request (λ waiter. quit_at thread client.session waiter waiter.stage) client thread session
       (With session) (λ waiter was f. by waiter was waiter.stage refl session f) e)
     where
-      quits : (waiter : Waiter) → waiter_in client thread ≡ Some waiter
+      ends : (waiter : Waiter) → waiter_in client thread ≡ Some waiter
           → is_asked_at waiter.stage ≡ false
           → With (without_waiter thread waiter client.session)
-      quits waiter was not_asked = by_registered waiter.registered refl
+      ends waiter was not_asked = by_registered waiter.registered refl
         where
           by_registered : (b : Bool) → waiter.registered ≡ b
               → With (with_waiter thread None
@@ -356,17 +388,48 @@ module _ (n : ℕ) (present : Present) (client : Client) (connection : Connectio
               (changes_waiter thread None client client.session refl refl)
               (no_reply client thread waiter was not_asked facts.answered) e refl
 
+      -- it ends, or gives its place up first
+      quits : (waiter : Waiter) → waiter_in client thread ≡ Some waiter
+          → (stage : Stage) → waiter.stage ≡ stage → FitsStage stage waiter.registered
+          → (FitsStage stage waiter.registered → waiter.registered ≡ true)
+          → is_asked_at stage ≡ false
+          → With (quit thread waiter client.session)
+      quits waiter was stage e fits inside not_asked =
+          by_leaving (leaving_function waiter.want.function) refl
+        where
+          by_leaving : (found : Option Function)
+              → leaving_function waiter.want.function ≡ found
+              → With (given_up thread waiter client.session found)
+          by_leaving None f = ends waiter was (ap is_asked_at e ∙ not_asked)
+          by_leaving (Some function) f =
+              gave_up n present client connection facts thread within waiter was
+              (next_count client.session.turn) (inside fits) (ap is_some f)
+              (ap is_asked_at e ∙ not_asked)
+
+      placed_at : (waiter : Waiter) → waiter_in client thread ≡ Some waiter → (stage : Stage)
+          → waiter.stage ≡ stage → FitsStage stage waiter.registered
+      placed_at waiter was stage e =
+          subst (λ s. FitsStage s waiter.registered) e
+          (placed_was thread None client client within facts.placed waiter was).fits
+
       by : (waiter : Waiter) → waiter_in client thread ≡ Some waiter → (stage : Stage)
           → waiter.stage ≡ stage → (session : Session)
           → quit_at thread client.session waiter stage ≡ Some session → With session
       by waiter was Joining e session f =
-          reached _ session (quits waiter was (ap is_asked_at e)) f
+          reached _ session
+          (quits waiter was Joining e (placed_at waiter was Joining e) (λ inside. inside) refl) f
       by waiter was (Ready turn) e session f =
-          reached _ session (quits waiter was (ap is_asked_at e)) f
+          reached _ session
+          (quits waiter was (Ready turn) e (placed_at waiter was (Ready turn) e)
+          (λ inside. inside) refl) f
       by waiter was (Refused refusal) e session f =
-          reached _ session (quits waiter was (ap is_asked_at e)) f
+          reached _ session
+          (quits waiter was (Refused refusal) e (placed_at waiter was (Refused refusal) e)
+          (λ inside. inside) refl) f
       by waiter was (Asleep refusal) e session f =
-          reached _ session (quits waiter was (ap is_asked_at e)) f
+          reached _ session
+          (quits waiter was (Asleep refusal) e (placed_at waiter was (Asleep refusal) e)
+          (λ inside. inside) refl) f
       by waiter was _ e session f = absurd (never session f)
 
   -- the facts of a client with this session whose thread has taken its reply

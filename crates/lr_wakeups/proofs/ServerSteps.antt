@@ -1,12 +1,12 @@
 -- All facts after what the server does: it executes an order, an item comes, a message is sent; and
 -- after a cut.
-use Rattle.std.proofs.Common.{◌≡◌, ℕ, zero, suc, ◌+◌, ◌<◌, ◌≤◌, ◌^◌, nat_lt, List, [], ◌∷◌, drop, slice_get, Bool, true, false, not, ◌&&◌, ◌||◌, Option, Some, None, refl, ap, sym, ◌∙◌, subst, arith, if◌then◌else◌}
+use Rattle.std.proofs.Common.{◌≡◌, ℕ, zero, suc, ◌+◌, ◌<◌, ◌≤◌, ◌^◌, nat_lt, List, [], ◌∷◌, drop, slice_get, Bool, true, false, not, ◌&&◌, ◌||◌, Option, Some, None, refl, ap, sym, ◌∙◌, subst, arith, if◌then◌else◌, inl, inr}
 use Rattle.std.specs.List.{list_any}
 use Rattle.std.proofs.lemmas.Bool.{and_parts, and_from, false≢true, ne_eqb}
 use Rattle.std.proofs.lemmas.List.Folds.{list_any-append}
 use Rattle.std.proofs.lemmas.Option.{same_Some}
 use Rattle.lr_limits.specs.Limits.{thread_limit}
-use Rattle.lr_names.specs.Channel.{ChannelOf, channel_wakes}
+use Rattle.lr_names.specs.Channel.{ChannelOf, channel_wakes, is_fair}
 use Rattle.lr_names.specs.declared.kind.Wakes.{Wakes}
 use Rattle.lr_names.specs.declared.kind.Wakes.TheVariants.{One, All}
 use Rattle.lr_names.specs.declared.post.Post.{Post}
@@ -28,10 +28,11 @@ use Rattle.lr_model.proofs.SameChannel.{same_is, same_self}
 use Rattle.lr_wakeups.specs.Counting.{count_below}
 use Rattle.lr_wakeups.specs.Outstanding.{IsAccounted}
 use Rattle.lr_wakeups.specs.Orders.{OrdersMatch, IsHeard, connection_after_order}
-use Rattle.lr_wakeups.specs.Joining.{PlacedWith, PlacedIn}
-use Rattle.lr_wakeups.specs.Standing.{is_blocked_at, blocked_with, is_blocked, Stands, IsCovered, ByMessage, ByPermit, ByAwake, ByTimer}
+use Rattle.lr_wakeups.specs.Joining.{gives_up_at, PlacedWith, PlacedIn}
+use Rattle.lr_wakeups.specs.Standing.{wakes_one_of_many, is_blocked_at, blocked_with, is_blocked, Stands, IsCovered, ByMessage, ByPermit, ByAwake, ByTimer}
 use Rattle.lr_wakeups.specs.Registered.{registered_with, is_registered}
 use Rattle.lr_wakeups.specs.Reached.{Present, ReachedWith, GoesOn, seen_at}
+use Rattle.lr_wakeups.specs.Queued.{QueuedWith, QueueGoesOn, NobodyIsBlocked}
 use Rattle.lr_wakeups.specs.Facts.{Facts}
 use Rattle.lr_wakeups.proofs.Entries.{delivered_by}
 use Rattle.lr_wakeups.proofs.Outstanding.{unacknowledged}
@@ -42,9 +43,11 @@ use Rattle.lr_wakeups.proofs.LatchFacts.{LatchFacts, latch_facts_at_start, latch
 use Rattle.lr_wakeups.proofs.Registered.{counts_same, counts_one}
 use Rattle.lr_wakeups.proofs.Answered.{answered_same}
 use Rattle.lr_wakeups.proofs.Standing.{blocked_registered, covered_alike}
-use Rattle.lr_wakeups.proofs.Joined.{joined_client, joined_registered, joined_blocked, joined_awake, joined_due, joined_asked, joined_placed, joined_reached}
+use Rattle.lr_wakeups.proofs.Joined.{joined_client, joined_registered, joined_blocked, joined_awake, joined_due, joined_asked, joined_placed, joined_reached, joined_queued}
 use Rattle.lr_wakeups.proofs.Relatched.{relatched, cover_threads, count_relatched, place_relatched, answer_relatched, cover_relatched}
 use Rattle.lr_wakeups.proofs.Reached.{number_acknowledged, number_delivered, number_handed_on, few_acknowledged, few_delivered, reached_moved, reached_later, reached_there}
+use Rattle.lr_wakeups.proofs.FairChannels.{wakes_one, fair_wakes_one}
+use Rattle.lr_wakeups.proofs.Queued.{Tells, refused_stays, queued_there, blocked_there, queued_goes_on}
 use Rattle.lr_wakeups.proofs.Rows.{facts_later}
 use Rattle.lr_wakeups.proofs.ThreadSteps.{latch_facts}
 
@@ -56,19 +59,24 @@ blocked_joins Joining reply function e = absurd (false≢true e)
 blocked_joins _ reply function e = refl
 
 heard_where_blocked : (client : Client) (q : ChannelOf) (thread : ℕ) → PlacedIn client thread
+    → ((waiter : Waiter) → waiter_in client thread ≡ Some waiter
+    → is_blocked_at waiter.stage (client.replies thread) waiter.want.function ≡ true
+    → gives_up_at waiter.stage waiter.want.function ≡ false)
     → is_blocked q client thread ≡ true
     → is_subscribed (client.session.latches.entries q) ≡ true
-heard_where_blocked client q thread placed = by (waiter_in client thread) placed.placed
+heard_where_blocked client q thread placed stays =
+    by (waiter_in client thread) refl placed.placed
   where
     true_of : (b : Bool) → false ≡ not b → b ≡ true
     true_of true e = refl
     true_of false e = absurd (false≢true e)
 
-    by : (found : Option Waiter) → PlacedWith client.session thread found
+    by : (found : Option Waiter) → waiter_in client thread ≡ found
+        → PlacedWith client.session thread found
         → blocked_with q client thread found ≡ true
         → is_subscribed (client.session.latches.entries q) ≡ true
-    by None p blocked = absurd (false≢true blocked)
-    by (Some waiter) p blocked =
+    by None was p blocked = absurd (false≢true blocked)
+    by (Some waiter) was p blocked =
         let parts = and_parts
         (waiter.registered && same_channel q (channel_in client.session thread waiter))
         (is_blocked_at waiter.stage (client.replies thread) waiter.want.function) blocked in
@@ -80,7 +88,7 @@ heard_where_blocked client q thread placed = by (waiter_in client thread) placed
         (is_subscribed (client.session.latches.entries (channel_in client.session thread waiter)))
         (sym
         (blocked_joins waiter.stage (client.replies thread) waiter.want.function parts.1)
-        ∙ p.joining there.0)
+        ∙ p.joining there.0 (stays waiter was parts.1))
 
 -- what stands first in an outbox
 first_item : (box : List Push) (push : Push) → slice_get box 0 ≡ Some push
@@ -115,6 +123,27 @@ module _ (n : ℕ) (present : Present) (client : Client) (connection : Connectio
   silent_before push rest first other q quiet =
       ap (in_flight q) first ∙ ap (λ b. b || in_flight q rest) (other q) ∙ quiet
 
+  -- what was told is told, where what is on its way stays so, and where there is a permit
+  told_on : (q : ChannelOf) (rest : List Push) (entry : LatchEntry)
+      → (in_flight q connection.outbox ≡ true → in_flight q rest ≡ true)
+      → (0 < (client.session.latches.entries q).permits → 0 < entry.permits)
+      → Tells connection.outbox (client.session.latches.entries q) q → Tells rest entry q
+  told_on q rest entry flies permit (inl was) = inl (flies was)
+  told_on q rest entry flies permit (inr some) = inr (permit some)
+
+  -- a thread that was refused doesn't give its place up
+  stays_refused : (t : ℕ) → t ≤ thread_limit → (waiter : Waiter)
+      → waiter_in client t ≡ Some waiter
+      → is_blocked_at waiter.stage (client.replies t) waiter.want.function ≡ true
+      → gives_up_at waiter.stage waiter.want.function ≡ false
+  stays_refused t within waiter was =
+      refused_stays present client.session.client t client.session.latches.entries
+      connection.outbox (client.replies t) waiter
+      (subst
+      (QueuedWith present client.session.client client.session.latches.entries
+      connection.outbox t (client.replies t))
+      was (facts.queued t within))
+
   -- an order to leave a channel was acknowledged
   unsubscribed_comes : (channel : Option ChannelOf) (count : ℕ) (rest : List Push)
       → connection.outbox ≡ Unsubscribed channel count ∷ rest
@@ -137,6 +166,12 @@ module _ (n : ℕ) (present : Present) (client : Client) (connection : Connectio
         reached_there present client client.session.latches.entries connection.outbox rest t
         (λ q there. refl) (silent_before (Unsubscribed channel count) rest first (λ q. refl))
         (waiter_in client t) refl (facts.reached t within);
+    queued = λ t within.
+        queued_there present client client.session.latches.entries connection.outbox rest t
+        (λ q there fair.
+        told_on q rest (client.session.latches.entries q)
+        (flying q (Unsubscribed channel count) rest first refl) (λ some. some))
+        (waiter_in client t) refl (facts.queued t within);
   }
     where
       latched : LatchFacts n client.session.latches (record connection { outbox = rest })
@@ -161,6 +196,10 @@ module _ (n : ℕ) (present : Present) (client : Client) (connection : Connectio
         (permits q) (message q) (facts.covered q);
     few = few;
     reached = λ t within. hears t within (waiter_in client t) refl (facts.reached t within);
+    queued = λ t within.
+        queued_there present client (deliver_at channel client.session.latches).entries
+        connection.outbox rest t (told t within) (waiter_in client t) refl
+        (facts.queued t within);
   }
     where
       latches : Latches
@@ -224,7 +263,22 @@ module _ (n : ℕ) (present : Present) (client : Client) (connection : Connectio
           (facts.bounded channel).few)
           (λ q other some. some)
 
-      message : (q : ChannelOf) → channel_wakes q.kind ≡ One → (t : ℕ) → t ≤ thread_limit
+      -- where threads wait and a message wakes one, there is a permit then
+      permit_here : (t : ℕ) → t ≤ thread_limit → (q : ChannelOf) → q ≡ channel
+          → channel_wakes q.kind ≡ One → is_registered q client t ≡ true
+          → 0 < ((deliver_at channel client.session.latches).entries q).permits
+      permit_here t within q is one there =
+          let waits = counts_one q client t within (facts.counted q) there in
+          let here : (deliver_at channel client.session.latches).entries q
+          ≡ deliver_in One (client.session.latches.entries q) =
+          ap (deliver_at channel client.session.latches).entries is ∙ entry.here
+          ∙ ap (λ (c : ChannelOf). deliver_in (channel_wakes c.kind)
+          (client.session.latches.entries c)) (sym is)
+          ∙ ap (λ w. deliver_in w (client.session.latches.entries q)) one in
+          subst (λ (x : LatchEntry). 0 < x.permits) (sym here)
+          (permit_delivered (client.session.latches.entries q) waits)
+
+      message : (q : ChannelOf) → wakes_one_of_many q.kind ≡ true → (t : ℕ) → t ≤ thread_limit
           → is_blocked q client t ≡ true → in_flight q connection.outbox ≡ true
           → Stands (present.peak q) q (relatched (deliver_at channel client.session.latches) client)
           (record connection { outbox = rest })
@@ -236,17 +290,26 @@ module _ (n : ℕ) (present : Present) (client : Client) (connection : Connectio
           by false e = ByMessage (flying q (Message channel wakes) rest first e flies)
           by true e =
               let is : q ≡ channel = same_is q channel e in
-              let waits = counts_one q client t within (facts.counted q)
-              (blocked_registered q client t blocked) in
-              let here : (deliver_at channel client.session.latches).entries q
-              ≡ deliver_in One (client.session.latches.entries q) =
-              ap (deliver_at channel client.session.latches).entries is ∙ entry.here
-              ∙ ap (λ (c : ChannelOf). deliver_in (channel_wakes c.kind)
-              (client.session.latches.entries c)) (sym is)
-              ∙ ap (λ w. deliver_in w (client.session.latches.entries q)) one in
               ByPermit
-              (subst (λ (x : LatchEntry). 0 < x.permits) (sym here)
-              (permit_delivered (client.session.latches.entries q) waits))
+              (permit_here t within q is (wakes_one q.kind one)
+              (blocked_registered q client t blocked))
+
+      -- nor is a message lost to who waits for a fair lock
+      told : (t : ℕ) → t ≤ thread_limit → (q : ChannelOf) → is_registered q client t ≡ true
+          → is_fair q.kind ≡ true
+          → Tells connection.outbox (client.session.latches.entries q) q
+          → Tells rest ((deliver_at channel client.session.latches).entries q) q
+      told t within q there fair = by (same_channel q channel) refl
+        where
+          by : (b : Bool) → same_channel q channel ≡ b
+              → Tells connection.outbox (client.session.latches.entries q) q
+              → Tells rest ((deliver_at channel client.session.latches).entries q) q
+          by false e =
+              told_on q rest ((deliver_at channel client.session.latches).entries q)
+              (flying q (Message channel wakes) rest first e) (permits q)
+          by true e =
+              λ was. inr
+              (permit_here t within q (same_is q channel e) (fair_wakes_one q.kind fair) there)
 
       few : (q : ChannelOf)
           → ((deliver_at channel client.session.latches).entries q).broadcast ≤ suc n
@@ -437,6 +500,18 @@ module _ (n : ℕ) (present : Present) (client : Client) (connection : Connectio
         (silent_before (Subscribed channel count) rest first (λ q. refl)) (waiter_in client t) refl
         (facts.reached t within)
 
+    queued_then : (t : ℕ) → t ≤ thread_limit
+        → QueuedWith present client.session.client
+        (acknowledge_at channel client.session.latches).entries rest t (client.replies t)
+        (waiter_in client t)
+    queued_then t within =
+        queued_there present client (acknowledge_at channel client.session.latches).entries
+        connection.outbox rest t
+        (λ q there fair.
+        told_on q rest ((acknowledge_at channel client.session.latches).entries q)
+        (flying q (Subscribed channel count) rest first refl) (permits_then q))
+        (waiter_in client t) refl (facts.queued t within)
+
     acknowledged_comes : Facts n present
         (record client { session = acknowledged channel client.session })
         (record connection { outbox = rest })
@@ -480,6 +555,7 @@ module _ (n : ℕ) (present : Present) (client : Client) (connection : Connectio
               (facts.covered q);
           few = few_then;
           reached = reached_then;
+          queued = queued_then;
         }
         by true e = record {
           accounted = latched_acknowledged.accounted;
@@ -503,6 +579,8 @@ module _ (n : ℕ) (present : Present) (client : Client) (connection : Connectio
           few = few_then;
           reached = λ t within.
               joined_reached channel client present rest t (reached_then t within);
+          queued = λ t within.
+              joined_queued channel client present rest t (queued_then t within);
         }
 
   -- the client takes the oldest item
@@ -598,14 +676,25 @@ module _ (n : ℕ) (present : Present) (client : Client) (connection : Connectio
                 (in_flight q (connection_after_order first connection).outbox)
                 (flies_on first.subscribe first.channel q) quiet)
                 (waiter_in client t) refl (facts.reached t within);
+            queued = λ t within.
+                queued_there present client client.session.latches.entries connection.outbox
+                (connection_after_order first connection).outbox t
+                (λ q there fair.
+                told_on q (connection_after_order first connection).outbox
+                (client.session.latches.entries q) (flies_on first.subscribe first.channel q)
+                (λ some. some))
+                (waiter_in client t) refl (facts.queued t within);
           }
 
   -- A message is sent to a channel. On the others all goes on, and on this one a subscribed client
   -- has it on its way then.
-  pub facts_post : (post : Post) (then_ : Present) → is_overrun post connection ≡ false
+  pub facts_post : (post : Post) (then_ : Present) (acts : ChannelOf → Bool)
+      → is_overrun post connection ≡ false
       → GoesOn (λ q. same_channel q post.channel) present then_
+      → QueueGoesOn (λ q. same_channel q post.channel) acts present then_
+      → NobodyIsBlocked acts client
       → Facts n then_ client (connection_after_post post connection)
-  facts_post post then_ room goes = record {
+  facts_post post then_ acts room goes queue nobody = record {
     accounted = latched.accounted;
     matched = latched.matched;
     bounded = facts.bounded;
@@ -615,6 +704,11 @@ module _ (n : ℕ) (present : Present) (client : Client) (connection : Connectio
     covered = covered;
     few = facts.few;
     reached = λ t within. reaches t within (waiter_in client t) refl (facts.reached t within);
+    queued = λ t within.
+        queued_goes_on present then_ (λ q. same_channel q post.channel) acts queue client nobody t
+        within connection.outbox (connection_after_post post connection).outbox
+        (λ q. told_blocked q t within) flies_on (waiter_in client t) refl
+        (facts.queued t within);
   }
     where
       latched : LatchFacts n client.session.latches (connection_after_post post connection)
@@ -669,7 +763,8 @@ module _ (n : ℕ) (present : Present) (client : Client) (connection : Connectio
           (ap (λ c. has_channel c connection) (sym (same_is q post.channel e))
           ∙ (is_heard n q (client.session.latches.entries q) client.session.latches.orders
           (has_channel q connection) connection.outbox (facts.accounted q) (facts.matched q)
-          (heard_where_blocked client q t (facts.placed t within) blocked)).subscribed)
+          (heard_where_blocked client q t (facts.placed t within) (stays_refused t within)
+          blocked)).subscribed)
 
       raises : (q : ChannelOf) → present.peak q ≤ then_.peak q → Stands (present.peak q) q client connection
           → Stands (then_.peak q) q client (connection_after_post post connection)
@@ -702,19 +797,8 @@ module _ (n : ℕ) (present : Present) (client : Client) (connection : Connectio
           → in_flight (channel_in client.session t waiter)
           (connection_after_post post connection).outbox ≡ true
       told_then t within waiter was inside blocked e =
-          let refused : is_blocked (channel_in client.session t waiter) client t ≡ true =
-          ap (blocked_with (channel_in client.session t waiter) client t) was
-          ∙ and_from
-          (waiter.registered
-          && same_channel (channel_in client.session t waiter)
-          (channel_in client.session t waiter))
-          (is_blocked_at waiter.stage (client.replies t) waiter.want.function)
-          (and_from waiter.registered
-          (same_channel (channel_in client.session t waiter)
-          (channel_in client.session t waiter))
-          inside (same_self (channel_in client.session t waiter)))
-          blocked in
-          told_blocked (channel_in client.session t waiter) t within refused e
+          told_blocked (channel_in client.session t waiter) t within
+          (blocked_there client t waiter was inside blocked) e
 
       reaches : (t : ℕ) → t ≤ thread_limit → (found : Option Waiter) → waiter_in client t ≡ found
           → ReachedWith present client.session.client client.session.latches.entries
@@ -759,9 +843,11 @@ module _ (n : ℕ) (present : Present) (client : Client) (connection : Connectio
       (facts.matched channel) heard
 
   -- all goes on
-  pub facts_going_on : (then_ : Present) → GoesOn (λ q. false) present then_
+  pub facts_going_on : (then_ : Present) (acts : ChannelOf → Bool)
+      → GoesOn (λ q. false) present then_
+      → QueueGoesOn (λ q. false) acts present then_ → NobodyIsBlocked acts client
       → Facts n then_ client connection
-  facts_going_on then_ goes = record {
+  facts_going_on then_ acts goes queue nobody = record {
     accounted = facts.accounted;
     matched = facts.matched;
     bounded = facts.bounded;
@@ -773,6 +859,10 @@ module _ (n : ℕ) (present : Present) (client : Client) (connection : Connectio
         (λ t blocked. blocked) (λ one t within blocked. raises q (goes.peaks q refl)) (facts.covered q);
     few = facts.few;
     reached = λ t within. reaches t (waiter_in client t) (facts.reached t within);
+    queued = λ t within.
+        queued_goes_on present then_ (λ q. false) acts queue client nobody t within
+        connection.outbox connection.outbox (λ q blocked none. absurd (false≢true none))
+        (λ q flies. flies) (waiter_in client t) refl (facts.queued t within);
   }
     where
       raises : (q : ChannelOf) → present.peak q ≤ then_.peak q → Stands (present.peak q) q client connection
@@ -812,6 +902,7 @@ facts_cut n present client = record {
   covered = λ q. record { stands = λ one t within blocked. absurd (false≢true blocked) };
   few = λ q. omega arith;
   reached = λ t within. tt;
+  queued = λ t within. tt;
 }
 
 -- before its first request, whether its connection is open or not
@@ -831,4 +922,5 @@ facts_at_start n present id lease connection no_channels no_items = record {
   covered = λ q. record { stands = λ one t within blocked. absurd (false≢true blocked) };
   few = λ q. omega arith;
   reached = λ t within. tt;
+  queued = λ t within. tt;
 }

@@ -18,8 +18,9 @@ use Rattle.lr_waiting.specs.Client.{Client, waiter_in}
 use Rattle.lr_waiting.specs.Stand.{waits_at, is_awake_at, awake_with, is_awake, due_at, due_by_reply, due_with, due_of}
 use Rattle.lr_model.proofs.SameChannel.{same_is}
 use Rattle.lr_wakeups.specs.Registered.{registered_with, is_registered, IsCounted}
-use Rattle.lr_wakeups.specs.Standing.{is_blocked_at, blocked_with, is_blocked, Stands, IsCovered, ByMessage, ByPermit, ByAwake, ByTimer}
+use Rattle.lr_wakeups.specs.Standing.{wakes_one_of_many, is_blocked_at, blocked_with, is_blocked, Stands, IsCovered, ByMessage, ByPermit, ByAwake, ByTimer}
 use Rattle.lr_wakeups.proofs.EntryChanges.{ChangesEntry, permit_left}
+use Rattle.lr_wakeups.proofs.FairChannels.{wakes_one}
 use Rattle.lr_wakeups.proofs.Registered.{counts_two}
 use Rattle.lr_wakeups.proofs.Threads.{ChangesThread, alone, seen_there, seen_here, blocked_local, awake_local, due_local}
 
@@ -57,7 +58,7 @@ none_some m e = absurd (cc e)
 pub covered_alike : (peak peak_then : ℕ) (channel : ChannelOf) (before after : Client)
     (connection then_ : Connection)
     → ((t : ℕ) → is_blocked channel after t ≡ true → is_blocked channel before t ≡ true)
-    → (channel_wakes channel.kind ≡ One → (t : ℕ) → t ≤ thread_limit
+    → (wakes_one_of_many channel.kind ≡ true → (t : ℕ) → t ≤ thread_limit
     → is_blocked channel before t ≡ true → Stands peak channel before connection
     → Stands peak_then channel after then_)
     → IsCovered peak channel before connection → IsCovered peak_then channel after then_
@@ -96,13 +97,13 @@ module _ (thread : ℕ) (found : Option Waiter) (reply : Option Reply) (before a
           (seen_there thread found reply before after changes (due_with channel)
           (due_local channel) t apart ∙ is) few
 
-  pub covered_changes : (channel_wakes channel.kind ≡ One
+  pub covered_changes : (wakes_one_of_many channel.kind ≡ true
       → blocked_with channel (alone before.session.client reply) thread found ≡ true → StandsThen)
-      → (channel_wakes channel.kind ≡ One → Stands peak channel before connection → StandsThen)
+      → (wakes_one_of_many channel.kind ≡ true → Stands peak channel before connection → StandsThen)
       → IsCovered peak channel before connection → IsCovered peak channel after connection
   covered_changes own carry covered = record { stands = stands }
     where
-      stands : channel_wakes channel.kind ≡ One → (t : ℕ) → t ≤ thread_limit
+      stands : wakes_one_of_many channel.kind ≡ true → (t : ℕ) → t ≤ thread_limit
           → is_blocked channel after t ≡ true → StandsThen
       stands one t within blocked = by (cases_eq t thread)
         where
@@ -140,7 +141,7 @@ module _ (thread : ℕ) (found : Option Waiter) (reply : Option Reply) (before a
       (none_some m (sym (not_due channel before thread (waiter_in before thread) outside) ∙ due))))
 
   -- the thread stands itself then
-  pub cover_itself : (channel_wakes channel.kind ≡ One → StandsThen)
+  pub cover_itself : (wakes_one_of_many channel.kind ≡ true → StandsThen)
       → IsCovered peak channel before connection → IsCovered peak channel after connection
   cover_itself stands = covered_changes (λ one blocked. stands one) (λ one before_. stands one)
 
@@ -196,6 +197,26 @@ module _ (thread : ℕ) (reply : Option Reply) (before after : Client) (within :
             (ap (λ b. b && is_blocked_at stage reply waiter.want.function) e)
             (permits (was_registered ∙ e))
 
+    -- it comes to another stage, and waits where no message wakes one of many
+    pub cover_apart : (stage : Stage)
+        → ChangesThread thread (Some (at_stage stage waiter)) reply before after
+        → (waits_at channel before thread waiter ≡ true
+        → wakes_one_of_many channel.kind ≡ false)
+        → (after.session.latches.entries channel).permits
+        ≡ (before.session.latches.entries channel).permits
+        → IsCovered peak channel before connection → IsCovered peak channel after connection
+    cover_apart stage changes apart permits = by (waits_at channel before thread waiter) refl
+      where
+        by : (b : Bool) → waits_at channel before thread waiter ≡ b
+            → IsCovered peak channel before connection → IsCovered peak channel after connection
+        by true e = λ covered. record {
+          stands = λ one t under blocked. absurd (false≢true (sym (apart e) ∙ one));
+        }
+        by false e =
+            cover_outside thread (Some (at_stage stage waiter)) reply before after changes peak
+            channel connection (was_registered ∙ e)
+            (ap (λ b. b && is_blocked_at stage reply waiter.want.function) e) permits
+
     -- it comes to another stage, and its timer stays
     pub cover_kept : (stage : Stage)
         → ChangesThread thread (Some (at_stage stage waiter)) reply before after
@@ -247,7 +268,7 @@ module _ (thread : ℕ) (reply : Option Reply) (before after : Client) (within :
     pub cover_answered : (asking : Asking) (answer : Reply)
         → waiter.stage ≡ Asked asking → reply ≡ Some answer
         → ChangesThread thread (Some waiter) reply before after
-        → (blocks answer waiter.want.function ≡ true → channel_wakes channel.kind ≡ One
+        → (blocks answer waiter.want.function ≡ true → wakes_one_of_many channel.kind ≡ true
         → waits_at channel before thread waiter ≡ true
         → (m : ℕ) × (due_by_reply asking.at (Some answer) ≡ Some m) × (m ≤ peak))
         → (after.session.latches.entries channel).permits
@@ -274,7 +295,7 @@ module _ (thread : ℕ) (reply : Option Reply) (before after : Client) (within :
             else None)
 
         stands : (b : Bool) → blocks answer waiter.want.function ≡ b
-            → waits_at channel before thread waiter ≡ true → channel_wakes channel.kind ≡ One
+            → waits_at channel before thread waiter ≡ true → wakes_one_of_many channel.kind ≡ true
             → Stands peak channel after connection
         stands true blocked e one =
             let timer = in_time blocked one e in
@@ -323,17 +344,18 @@ module _ (thread : ℕ) (reply : Option Reply) (before after : Client) (within :
 
         -- the entry where it is the thread's own
         now : channel ≡ channel_in before.session thread waiter
-            → channel_wakes channel.kind ≡ One
+            → wakes_one_of_many channel.kind ≡ true
             → after.session.latches.entries channel
             ≡ leave_in One (before.session.latches.entries channel)
         now own one =
             ap after.session.latches.entries own ∙ entry.here
             ∙ ap (λ (c : ChannelOf). leave_in (channel_wakes c.kind)
             (before.session.latches.entries c)) (sym own)
-            ∙ ap (λ w. leave_in w (before.session.latches.entries channel)) one
+            ∙ ap (λ w. leave_in w (before.session.latches.entries channel))
+            (wakes_one channel.kind one)
 
         stands : channel ≡ channel_in before.session thread waiter
-            → is_registered channel before thread ≡ true → channel_wakes channel.kind ≡ One
+            → is_registered channel before thread ≡ true → wakes_one_of_many channel.kind ≡ true
             → (t : ℕ) → t ≤ thread_limit → is_blocked channel after t ≡ true
             → (t ≡ thread) ⊎ (t ≡ thread → ⊥) → Stands peak channel after connection
         stands own registered one t under blocked (inl same) =

@@ -28,6 +28,7 @@ use Rattle.lr_wakeups.specs.Joining.{FitsStage, PlacedWith}
 use Rattle.lr_wakeups.specs.Standing.{is_blocked_at, blocked_with, is_blocked, Stands, ByMessage, ByPermit, ByAwake, ByTimer, StandsWithin, NoLostWakeup}
 use Rattle.lr_wakeups.specs.Reached.{Present, IsDueBy, IsRefusedUntil, WaitsFor, WaitsIn, ReachedWith, seen_at, timer_bound, StandsBy, NoLostBroadcast}
 use Rattle.lr_wakeups.specs.Facts.{Facts}
+use Rattle.lr_wakeups.proofs.FairChannels.{wakes_one}
 use Rattle.lr_wakeups.proofs.Joining.{placed_was}
 
 -- what passes and is among these
@@ -171,7 +172,8 @@ no_lost_wakeup n present client connection facts state now thread waiter stand w
     by_stage (Asleep refusal) e f =
         subst (StandsWithin (present.peak (channel_in client.session thread waiter)))
         (ap
-        (λ w. stand_by w state now connection.outbox client thread waiter refusal) (sym one)
+        (λ w. stand_by w state now connection.outbox client thread waiter refusal)
+        (sym (wakes_one (channel_in client.session thread waiter).kind one))
         ∙ same_Some _ stand f)
         (told_to_stand (present.peak (channel_in client.session thread waiter))
         (channel_in client.session thread waiter) client connection
@@ -213,6 +215,7 @@ waits_by_timer : (function : Function) (present : Present) (owner other : Thread
 waits_by_timer (functions.Lock f) present owner other want due all waits free = absurd (cc all)
 waits_by_timer (functions.Fenced f) present owner other want due all waits free =
     absurd (cc all)
+waits_by_timer (functions.Fair f) present owner other want due all waits free = absurd (cc all)
 waits_by_timer (functions.ReadWrite f) present owner other want due all waits free =
     timer_by_peak (present.peak (channel_for owner want)) due waits
 waits_by_timer (functions.Permits f) present owner other want due all waits free =

@@ -11,6 +11,7 @@ use Rattle.lr_wakeups.specs.Registered.{IsCounted}
 use Rattle.lr_wakeups.specs.Joining.{PlacedIn}
 use Rattle.lr_wakeups.specs.Answered.{HasReplyIfAsked}
 use Rattle.lr_wakeups.specs.Reached.{Present, ReachedIn}
+use Rattle.lr_wakeups.specs.Queued.{QueuedIn}
 use Rattle.lr_wakeups.specs.Standing.{IsCovered}
 
 -- n is at least the number of orders to subscribe that were made on any channel, and of messages that
@@ -34,3 +35,4 @@ pub record Facts (n : ℕ) (present : Present) (client : Client) (connection : C
       → IsCovered (present.peak channel) channel client connection
   pub few : (channel : ChannelOf) → (client.session.latches.entries channel).broadcast ≤ n
   pub reached : (thread : ℕ) → thread ≤ thread_limit → ReachedIn present client connection thread
+  pub queued : (thread : ℕ) → thread ≤ thread_limit → QueuedIn present client connection thread

@@ -1,5 +1,5 @@
 -- What it is for a step to keep all facts.
-use Rattle.std.specs.Prelude.{◌≡◌, ℕ, suc, ◌<◌, ◌≤◌, ◌^◌, false, Option, Some, slice_get}
+use Rattle.std.specs.Prelude.{◌≡◌, ℕ, suc, ◌<◌, ◌≤◌, ◌^◌, Bool, false, Option, Some, slice_get}
 use Rattle.lr_limits.specs.Limits.{thread_limit}
 use Rattle.lr_names.specs.declared.post.Post.{Post}
 use Rattle.lr_names.specs.declared.post.Push.{Push}
@@ -7,12 +7,14 @@ use Rattle.lr_objects.specs.declared.reply.Reply.{Reply}
 use Rattle.lr_waiting.specs.declared.latch.Order.{Order}
 use Rattle.lr_waiting.specs.declared.waiter.Asking.{Asking}
 use Rattle.lr_waiting.specs.declared.waiter.Waiter.{Waiter}
+use Rattle.lr_names.specs.Channel.{ChannelOf}
 use Rattle.lr_model.specs.Board.{same_channel, Connection, is_overrun, connection_after_post, connection_after_drain}
 use Rattle.lr_waiting.specs.Latch.{first_order_of}
 use Rattle.lr_waiting.specs.Session.{owner_in, pushed, order_taken}
 use Rattle.lr_waiting.specs.Client.{Client, waiter_in, with_reply, asked_of}
 use Rattle.lr_wakeups.specs.Orders.{connection_after_order}
 use Rattle.lr_wakeups.specs.Reached.{Present, GoesOn, IsLeftWaiting}
+use Rattle.lr_wakeups.specs.Queued.{IsLeftQueued, QueueGoesOn, NobodyIsBlocked}
 use Rattle.lr_wakeups.specs.Standing.{IsInTime}
 use Rattle.lr_wakeups.specs.Facts.{Facts}
 
@@ -43,6 +45,8 @@ ReplyKeepsFacts thread =
     → IsInTime present.peak client thread waiter asking reply)
     → ((waiter : Waiter) → waiter_in client thread ≡ Some waiter
     → IsLeftWaiting present (owner_in client.session thread) waiter.want asking.at reply)
+    → ((waiter : Waiter) → waiter_in client thread ≡ Some waiter
+    → IsLeftQueued present (owner_in client.session thread) waiter asking reply)
     → Facts n present (with_reply thread (Some reply) client) connection
 
 -- the client takes the oldest item from its connection
@@ -63,12 +67,16 @@ OrderKeepsFacts =
     (connection_after_order order connection)
 
 -- The server sends a message, and doesn't drop the connection. The peak of the message's channel may
--- be another then, and who waits there may wait no longer. On the other channels all goes on.
+-- be another then, and who waits there may wait no longer. On the other channels all goes on. Where
+-- an owner made a call, on its own channel, nobody was refused.
 abbrev pub PostKeepsFacts : Type 0
 PostKeepsFacts =
     (n : ℕ) (present then_ : Present) (client : Client) (connection : Connection) (post : Post)
+    (acts : ChannelOf → Bool)
     → is_overrun post connection ≡ false
     → GoesOn (λ channel. same_channel channel post.channel) present then_
+    → QueueGoesOn (λ channel. same_channel channel post.channel) acts present then_
+    → NobodyIsBlocked acts client
     → Facts n present client connection
     → Facts n then_ client (connection_after_post post connection)
 
@@ -76,5 +84,7 @@ PostKeepsFacts =
 abbrev pub GoingOnKeepsFacts : Type 0
 GoingOnKeepsFacts =
     (n : ℕ) (present then_ : Present) (client : Client) (connection : Connection)
-    → GoesOn (λ channel. false) present then_ → Facts n present client connection
+    (acts : ChannelOf → Bool)
+    → GoesOn (λ channel. false) present then_
+    → QueueGoesOn (λ channel. false) acts present then_ → NobodyIsBlocked acts client → Facts n present client connection
     → Facts n then_ client connection

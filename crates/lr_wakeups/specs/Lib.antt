@@ -7,6 +7,7 @@ pub mod Joining
 pub mod Answered
 pub mod Standing
 pub mod Reached
+pub mod Queued
 pub mod Facts
 pub mod Keeps
 pub mod Peaks

@@ -1,8 +1,9 @@
--- What stands for those who were refused, on a channel where a message wakes one.
+-- What stands for those who were refused, on a channel where a message wakes one of many.
 use Rattle.std.specs.Prelude.{◌≡◌, ℕ, ◌+◌, ◌<◌, ◌≤◌, Bool, true, false, ◌&&◌, Option, Some, None}
 use Rattle.lr_limits.specs.Limits.{thread_limit}
-use Rattle.lr_names.specs.Channel.{ChannelOf, channel_wakes}
-use Rattle.lr_names.specs.declared.kind.Wakes.TheVariants.{One}
+use Rattle.lr_names.specs.Channel.{ChannelOf}
+use Rattle.lr_names.specs.declared.kind.Kind.{Kind}
+use Rattle.lr_names.specs.declared.kind.Kind.TheVariants.{Mutex, Fair, Rw, Fenced, Semaphore, Permits, Countdown}
 use Rattle.lr_objects.specs.Reply.{blocks}
 use Rattle.lr_objects.specs.declared.kinds.Function.{Function}
 use Rattle.lr_objects.specs.declared.reply.Reply.{Reply}
@@ -18,6 +19,16 @@ use Rattle.lr_model.specs.History.{State}
 use Rattle.lr_waiting.specs.Session.{channel_in}
 use Rattle.lr_waiting.specs.Client.{Client, waiter_in}
 use Rattle.lr_waiting.specs.Stand.{waits_at, in_flight, is_awake, due_of, stand_of}
+
+-- whether a message wakes one of many: on the channel of a fair lock only its owner waits
+abbrev pub wakes_one_of_many : Kind → Bool
+wakes_one_of_many Mutex = true
+wakes_one_of_many Fenced = true
+wakes_one_of_many Fair = false
+wakes_one_of_many Rw = false
+wakes_one_of_many Semaphore = false
+wakes_one_of_many Permits = false
+wakes_one_of_many Countdown = false
 
 -- whether a call was refused, and its thread hasn't been woken since: the reply waits for it, or it
 -- looks next whether it is to sleep, or it sleeps
@@ -50,17 +61,17 @@ pub data Stands (peak : ℕ) (channel : ChannelOf) (client : Client) (connection
       → due_of channel client thread ≡ Some moment → moment ≤ peak
       → Stands peak channel client connection
 
--- Where a thread was refused on the channel, and a message wakes one, something stands.
+-- Where a thread was refused on the channel, and a message wakes one of many, something stands.
 pub record IsCovered (peak : ℕ) (channel : ChannelOf) (client : Client) (connection : Connection)
     : Type 0 where
-  pub stands : channel_wakes channel.kind ≡ One → (thread : ℕ) → thread ≤ thread_limit
+  pub stands : wakes_one_of_many channel.kind ≡ true → (thread : ℕ) → thread ≤ thread_limit
       → is_blocked channel client thread ≡ true → Stands peak channel client connection
 
--- A reply that refuses a call, on a channel where a message wakes one, tells how long to wait, and
--- the timer that this gives isn't later than the peak.
+-- A reply that refuses a call, on a channel where a message wakes one of many, tells how long to
+-- wait, and the timer that this gives isn't later than the peak.
 pub record IsInTime (peak : ChannelOf → ℕ) (client : Client) (thread : ℕ) (waiter : Waiter)
     (asking : Asking) (reply : Reply) : Type 0 where
-  pub timer : channel_wakes (channel_in client.session thread waiter).kind ≡ One
+  pub timer : wakes_one_of_many (channel_in client.session thread waiter).kind ≡ true
       → blocks reply waiter.want.function ≡ true
       → (millis : ℕ) × (reply ≡ Busy millis)
       × (asking.at + millis ≤ peak (channel_in client.session thread waiter))
@@ -72,11 +83,11 @@ StandsWithin peak stands.Nobody = ⊥
 StandsWithin peak _ = Unit {0}
 
 -- no wakeup is lost to a client: this is so of each of its threads that sleeps on a channel where a
--- message wakes one
+-- message wakes one of many
 abbrev pub NoLostWakeup : (ChannelOf → ℕ) → Client → Connection → Type 0
 NoLostWakeup peak client connection =
     (state : State) (now thread : ℕ) (waiter : Waiter) (stand : Stand)
     → thread ≤ thread_limit → waiter_in client thread ≡ Some waiter
-    → channel_wakes (channel_in client.session thread waiter).kind ≡ One
+    → wakes_one_of_many (channel_in client.session thread waiter).kind ≡ true
     → stand_of state now connection.outbox client thread ≡ Some stand
     → StandsWithin (peak (channel_in client.session thread waiter)) stand

@@ -3,11 +3,12 @@ ghost use Rattle.lr_names.specs.Channel.{ChannelOf};
 ghost use Rattle.lr_model.specs.Board.{Connection};
 ghost use Rattle.lr_waiting.specs.Client.{Client};
 ghost use Rattle.lr_wakeups.specs.Facts.{Facts};
+ghost use Rattle.lr_wakeups.specs.Queued.{NoLostTurn};
 ghost use Rattle.lr_wakeups.specs.Reached.{Present, NoLostBroadcast};
 ghost use Rattle.lr_wakeups.specs.Standing.{NoLostWakeup};
 
 /// Where the facts are so, something stands for each thread that sleeps on a channel where a message
-/// wakes one. What is told to stand for it is never nothing, and a timer that is told isn't later
+/// wakes one of many. What is told to stand for it is never nothing, and a timer that is told isn't later
 /// than the peak.
 pub fn no_wakeup_is_lost()
     ensures { (n : ℕ) (present : Present) (client : Client) (connection : Connection)
@@ -20,4 +21,12 @@ pub fn no_wakeup_is_lost()
 pub fn no_broadcast_is_lost()
     ensures { (n : ℕ) (present : Present) (client : Client) (connection : Connection)
         → Facts n present client connection → NoLostBroadcast present client connection }
+{}
+
+/// And for a fair lock: the thread's place in the queue goes stale later than it asks again by
+/// itself, a message that was sent to it since it asked is on its way or has left a permit, and what
+/// is told to stand is never nothing, and no timer that comes too late for the place.
+pub fn no_turn_is_lost()
+    ensures { (n : ℕ) (present : Present) (client : Client) (connection : Connection)
+        → Facts n present client connection → NoLostTurn present client connection }
 {}
