@@ -13,6 +13,7 @@ use Rattle.lr_laws.proofs.ClaimLaws.{ClaimLaw}
 use Rattle.lr_laws.proofs.Conflicts as conflicts
 use Rattle.lr_laws.proofs.UnclaimedKinds.{unclaimed_law}
 use Rattle.lr_laws.proofs.Mutexes.{mutex_law}
+use Rattle.lr_laws.proofs.FairLocks.{fair_law}
 use Rattle.lr_laws.proofs.ReadWriteLocks.{read_write_law}
 use Rattle.lr_laws.proofs.FencedLocks.{fenced_law}
 
@@ -20,6 +21,7 @@ use Rattle.lr_laws.proofs.FencedLocks.{fenced_law}
 -- claim: a kind whose calls do gets a line above that and one in it.
 law_of : (kind : Kind) → ClaimLaw kind
 law_of kinds.Mutex = mutex_law
+law_of kinds.Fair = fair_law
 law_of kinds.Rw = read_write_law
 law_of kinds.Fenced = fenced_law
 law_of kind =
@@ -28,6 +30,7 @@ law_of kind =
     let claim : Claim = claim_on kind name mode owner in
     elim op.call as (λ c. concerns (call_on op.name c) claim ≡ false) [
       | calls.Lock c ↦ other_kind claim (call_on op.name (calls.Lock c)) refl
+      | calls.Fair c ↦ other_kind claim (call_on op.name (calls.Fair c)) refl
       | calls.ReadWrite c ↦ other_kind claim (call_on op.name (calls.ReadWrite c)) refl
       | calls.Fenced c ↦ other_kind claim (call_on op.name (calls.Fenced c)) refl
       | _ ↦ refl

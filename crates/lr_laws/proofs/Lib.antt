@@ -7,6 +7,8 @@ pub mod HoldSteps
 pub mod HoldFunctions
 pub mod HoldTables
 pub mod Mutexes
+pub mod FairLocks
+pub mod FairPlaces
 pub mod ReadWriteHoldSteps
 pub mod ReadWriteLocks
 pub mod FencedLocks

@@ -3,12 +3,14 @@
 #![tactic(auto)]
 
 mod countdown_laws;
+mod fair_laws;
 mod fenced_laws;
 mod laws;
 mod permit_laws;
 mod semaphore_laws;
 
 pub use countdown_laws::latches_count_down;
+pub use fair_laws::{fair_places_stay, fair_tries_never_overtake, fair_waits_have_places};
 pub use fenced_laws::tokens_strictly_grow;
 pub use laws::tenures_never_conflict;
 pub use permit_laws::no_more_permits_are_live_than_were_set;
