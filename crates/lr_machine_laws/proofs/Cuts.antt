@@ -2,6 +2,7 @@
 use Rattle.std.proofs.Common.{◌≡◌, ℕ, Bool, true, false, Option, Some, None, if◌then◌else◌, refl, ◌∙◌}
 use Rattle.lr_names.specs.declared.post.Push.{Push}
 use Rattle.lr_names.specs.declared.post.Push.TheVariants.{Subscribed, Unsubscribed, Message}
+use Rattle.lr_objects.specs.declared.kinds.Function.{Function}
 use Rattle.lr_objects.specs.declared.reply.Reply.{Reply}
 use Rattle.lr_objects.specs.declared.reply.Reply.TheVariants as replies
 use Rattle.lr_objects.specs.declared.want.Mode.{Mode}
@@ -18,7 +19,7 @@ use Rattle.lr_waiting.specs.declared.waiter.Waiter.{Waiter}
 use Rattle.lr_waiting.specs.declared.watch.WatchKey.{WatchKey}
 use Rattle.lr_waiting.specs.Client.{Client, client_row, with_reply, take_with, take_reply}
 use Rattle.lr_waiting.specs.Latch.{acknowledge_in, is_due, is_subscribed, checked_in, register_in, woken_in}
-use Rattle.lr_waiting.specs.Session.{Session, begin_row, begin_at, ask_row, ask_at, take_row, take_at, check_row, check_at, checked, wake_row, wake_at, woken, fire_row, fire_at, quit_row, quit_at, pushed, of_waiter, taken, refused, registered, without_waiter, watched_by, watch_begun, watch_ended, waits_for, due_after, key_in, entry_for, channel_in, with_latches, with_stage, with_ticket, with_waiter, with_joined}
+use Rattle.lr_waiting.specs.Session.{Session, begin_row, begin_at, ask_row, ask_at, take_row, take_at, check_row, check_at, checked, wake_row, wake_at, woken, fire_row, fire_at, leaving_function, given_up, quit, quit_row, quit_at, pushed, of_waiter, taken, refused, registered, without_waiter, watched_by, watch_begun, watch_ended, waits_for, due_after, key_in, entry_for, channel_in, with_latches, with_stage, with_ticket, with_waiter, with_joined}
 use Rattle.lr_waiting.specs.Latch.{leave_at, register_at, acknowledge_at}
 
 -- a step, where it applies, leaves a client as cut off as it was
@@ -257,12 +258,22 @@ keeps-fire thread now session =
     keeps-of_waiter session (λ waiter. fire_at thread now session waiter waiter.stage)
     (λ waiter. keeps-fire_at thread now session waiter waiter.stage) (session.waiters thread)
 
+-- who gives up ends, or gives its place up first
+cut-quit : (thread : ℕ) (waiter : Waiter) (session : Session)
+    → (quit thread waiter session).is_cut ≡ session.is_cut
+cut-quit thread waiter session = by (leaving_function waiter.want.function)
+  where
+    by : (found : Option Function)
+        → (given_up thread waiter session found).is_cut ≡ session.is_cut
+    by None = cut-without_waiter thread waiter session
+    by (Some function) = refl
+
 keeps-quit_at : (thread : ℕ) (session : Session) (waiter : Waiter) (stage : Stage)
     → KeepsCut session (quit_at thread session waiter stage)
-keeps-quit_at thread session waiter Joining = cut-without_waiter thread waiter session
-keeps-quit_at thread session waiter (Ready turn) = cut-without_waiter thread waiter session
-keeps-quit_at thread session waiter (Refused refusal) = cut-without_waiter thread waiter session
-keeps-quit_at thread session waiter (Asleep refusal) = cut-without_waiter thread waiter session
+keeps-quit_at thread session waiter Joining = cut-quit thread waiter session
+keeps-quit_at thread session waiter (Ready turn) = cut-quit thread waiter session
+keeps-quit_at thread session waiter (Refused refusal) = cut-quit thread waiter session
+keeps-quit_at thread session waiter (Asleep refusal) = cut-quit thread waiter session
 keeps-quit_at thread session waiter (Fresh turn) = tt
 keeps-quit_at thread session waiter (Asked asking) = tt
 keeps-quit_at thread session waiter (Leaving turn) = tt
