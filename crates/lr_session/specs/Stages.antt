@@ -1,10 +1,11 @@
 -- What a step looks at in a request.
 use Rattle.std.specs.Prelude.{ℕ, Bool, true, false, Option, Some, None, if◌then◌else◌}
+use Rattle.lr_objects.specs.declared.want.Want.{Want}
 use Rattle.lr_waiting.specs.declared.waiter.Refusal.{Refusal}
 use Rattle.lr_waiting.specs.declared.waiter.Stage.{Stage}
-use Rattle.lr_waiting.specs.declared.waiter.Stage.TheVariants.{Joining, Ready, Refused, Asleep}
+use Rattle.lr_waiting.specs.declared.waiter.Stage.TheVariants.{Joining, Ready, Refused, Asleep, Leaving}
 use Rattle.lr_waiting.specs.declared.waiter.Waiter.{Waiter}
-use Rattle.lr_waiting.specs.Session.{at_stage}
+use Rattle.lr_waiting.specs.Session.{at_stage, leaving_function, leaving_want}
 
 -- what a request knows whose call was refused, and that hasn't looked yet
 abbrev pub refused_at : Stage → Option Refusal
@@ -23,6 +24,11 @@ may_give_up (Ready turn) = true
 may_give_up (Refused refusal) = true
 may_give_up (Asleep refusal) = true
 may_give_up _ = false
+
+-- what a request asks for: what it began with, or to give its place in a queue up
+abbrev pub want_at : Waiter → Stage → Want
+want_at waiter (Leaving turn) = leaving_want waiter.want (leaving_function waiter.want.function)
+want_at waiter _ = waiter.want
 
 -- a request that counts among those that wait on its channel
 abbrev pub joined : Waiter → Waiter

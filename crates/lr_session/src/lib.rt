@@ -3,6 +3,8 @@
 #![tactic(auto)]
 
 mod asks;
+#[cfg(test)]
+mod fair_tests;
 mod fault;
 mod joining;
 mod pushes;

@@ -2,19 +2,22 @@
 ghost use Rattle.std.specs.Prelude.{◌≡◌, ◌≤◌, true, false, Some, None, if◌then◌else◌, IsSome, IfOk, IfErr, OnOk, OnErr};
 ghost use Rattle.lr_limits.specs.Limits.{last_moment};
 ghost use Rattle.lr_names.specs.Owner.{IsThread};
+ghost use Rattle.lr_objects.specs.Function.{arguments_of};
+ghost use Rattle.lr_objects.specs.Want.{HasAmount};
 ghost use Rattle.lr_waiting.specs.declared.told.Taken.TheVariants as takes;
 ghost use Rattle.lr_waiting.specs.declared.waiter.Stage.TheVariants as stages;
 ghost use Rattle.lr_waiting.specs.Begin.{CanBegin};
 ghost use Rattle.lr_waiting.specs.Latch.{is_subscribed, register_in};
-ghost use Rattle.lr_waiting.specs.Session.{phase_in, begin_row, take_row, asking_for, lease_in, may_wait, refused, registered, taken, with_ticket, without_waiter, entry_for};
+ghost use Rattle.lr_waiting.specs.Session.{phase_in, begin_row, take_row, asked, asking_for, lease_in, may_wait, refused, registered, taken, with_ticket, without_waiter, entry_for};
 ghost use Rattle.lr_waiting.specs.Told.{next_ticket, ticket_of, ask_by, taken_by, taken_with, refused_with};
+ghost use Rattle.lr_session.specs.Stages.{want_at};
 ghost use Rattle.lr_session.specs.Told.{IsFault, IsNotNow, op_noted};
 ghost use Rattle.lr_session.specs.Value.{IsAsking, IsRequest, session_of};
 
 use crate::fault::SessionFault;
 use crate::stages::{
     asked_at, at_stage, due_after, has_turn, is_watch, joined, may_wait, new_waiter, phase_at,
-    turn_at, waits_for,
+    turn_at, waits_for, want_at,
 };
 use crate::state::SessionState;
 use lr_objects::{Lease, Mode, Op, Reply, Want};
@@ -59,8 +62,8 @@ impl SessionState {
     }
 
     /// A thread sends its call by its ticket, at a moment: this is the call, and the session notes
-    /// it. `NotNow` where the ticket isn't the one that the thread has. It takes no memory, and an
-    /// error changes nothing.
+    /// it. One that gives its place in a queue up sends the call for that. `NotNow` where the ticket
+    /// isn't the one that the thread has. It takes no memory, and an error changes nothing.
     pub fn ask(&mut self, ask: Ask, moment: u64) -> Result<Op, SessionFault>
         requires { moment ≤ last_moment }
         ensures ok { OnOk result (Some (session_of self.new)
@@ -77,29 +80,44 @@ impl SessionState {
         if !has_turn(waiter, ask.turn) {
             return Err(self.not_now(ask.thread));
         }
-        let asking = self.asking(ask.thread, &waiter, moment);
-        let op = asking.op;
-        self.waiters
-            .set(ask.thread, at_stage(waiter, Stage::Asked(asking)));
-        Ok(op)
+        Ok(self.send(ask.thread, waiter, moment))
     }
 
-    // The call of a thread that has a ticket.
-    fn asking(&self, thread: u32, waiter: &Waiter, moment: u64) -> Asking
+    // A thread that has a ticket sends its call.
+    fn send(&mut self, thread: u32, waiter: Waiter, moment: u64) -> Op
+        requires request { IsRequest thread waiter }
+        requires begun { (session_of self.old).waiters thread ≡ Some waiter }
+        requires early { moment ≤ last_moment }
+        ensures session { session_of self.new
+            ≡ asked thread moment (want_at waiter waiter.stage) waiter (session_of self.old) }
+        ensures op { op_noted thread (session_of self.new) ≡ Some result }
+        ensures room { self.new.room ≡ self.old.room }
+    {
+        let asking = self.asking(thread, &waiter, &want_at(waiter), moment);
+        let op = asking.op;
+        self.waiters
+            .set(thread, at_stage(waiter, Stage::Asked(asking)));
+        op
+    }
+
+    // The call of a thread that has a ticket, and that wants this now.
+    fn asking(&self, thread: u32, waiter: &Waiter, want: &Want, moment: u64) -> Asking
         requires request { IsRequest thread waiter.now }
+        requires amount { HasAmount (arguments_of want.now.function) want.now }
+        requires lease { want.now.lease ≡ waiter.now.want.lease }
         requires early { moment ≤ last_moment }
         ensures asking { result
-            ≡ asking_for thread moment waiter.now.want waiter.now (session_of self.now) }
+            ≡ asking_for thread moment want.now waiter.now (session_of self.now) }
         ensures sent { IsAsking result }
     {
         let owner = self.owner(thread);
-        let lease = self.lease_asked(waiter.want.lease);
+        let lease = self.lease_asked(want.lease);
         let channel = self.channel(thread, &waiter.want);
         Asking {
-            op: waiter.want.op(&owner, lease, may_wait(waiter.mode)),
+            op: want.op(&owner, lease, may_wait(waiter.mode)),
             at: moment,
             seen: self.latches.seen(&channel),
-            watched: is_watch(waiter.want.lease),
+            watched: is_watch(want.lease),
         }
     }
 
@@ -226,6 +244,24 @@ impl SessionState {
         self.turn = self.turn.wrapping_add(1);
         self.waiters
             .set(thread, at_stage(waiter, Stage::Ready(self.turn)));
+        Ask {
+            thread,
+            turn: self.turn,
+        }
+    }
+
+    /// The request of a thread gets the next ticket, by which it gives its place in a queue up.
+    pub(crate) fn make_leaving(&mut self, thread: u32, waiter: Waiter) -> Ask
+        requires request { IsRequest thread waiter }
+        requires begun { IsSome ((session_of self.old).waiters thread) }
+        ensures session { session_of self.new
+            ≡ with_ticket thread waiter stages.Leaving (session_of self.old) }
+        ensures ticket { result ≡ next_ticket thread (session_of self.old) }
+        ensures room { self.new.room ≡ self.old.room }
+    {
+        self.turn = self.turn.wrapping_add(1);
+        self.waiters
+            .set(thread, at_stage(waiter, Stage::Leaving(self.turn)));
         Ask {
             thread,
             turn: self.turn,

@@ -1,15 +1,17 @@
 //! What a step looks at in a request, and what it changes of it.
 ghost use Rattle.std.specs.Prelude.{◌≡◌, ◌≤◌, true, IfSome, IsTrue, None};
 ghost use Rattle.lr_limits.specs.Limits.{last_moment};
+ghost use Rattle.lr_objects.specs.Function.{arguments_of};
+ghost use Rattle.lr_objects.specs.Want.{HasAmount};
 ghost use Rattle.lr_waiting.specs.declared.waiter.Stage.TheVariants as stages;
 ghost use Rattle.lr_waiting.specs.Client.{asked_at};
 ghost use Rattle.lr_waiting.specs.Latch.{is_due};
-ghost use Rattle.lr_waiting.specs.Session.{phase_at, at_stage, new_waiter, may_wait, is_watch, due_after, waits_for, has_timer, is_joining_at};
+ghost use Rattle.lr_waiting.specs.Session.{phase_at, at_stage, new_waiter, may_wait, is_watch, due_after, waits_for, has_timer, is_joining_at, leaving_function, leaving_want};
 ghost use Rattle.lr_waiting.specs.Told.{ticket_at, is_turn};
-ghost use Rattle.lr_session.specs.Stages.{refused_at, asleep_at, may_give_up, joined};
+ghost use Rattle.lr_session.specs.Stages.{refused_at, asleep_at, may_give_up, joined, want_at};
 
 use lr_names::Due;
-use lr_objects::{Lease, Mode, Reply, Want};
+use lr_objects::{FairFunction, Function, Lease, Mode, Reply, Want};
 use lr_waiting::{Asking, Phase, Refusal, Stage, Waiter};
 
 /// The phase of a request.
@@ -156,6 +158,48 @@ pub(crate) fn may_give_up(waiter: Waiter) -> bool
     match stage {
         Stage::Joining | Stage::Ready(_) | Stage::Refused(_) | Stage::Asleep(_) => true,
         Stage::Fresh(_) | Stage::Asked(_) | Stage::Leaving(_) => false,
+    }
+}
+
+/// The function by which a place in a queue is given up: only a fair lock has a queue.
+pub(crate) fn leaving_function(function: Function) -> Option<Function>
+    ensures { result ≡ leaving_function function }
+{
+    match function {
+        Function::Fair(_) => Some(Function::Fair(FairFunction::Leave)),
+        _ => None,
+    }
+}
+
+/// What a request wants once it gives its place in a queue up.
+pub(crate) fn leaving_want(want: Want) -> Want
+    requires { HasAmount (arguments_of want.function) want }
+    ensures value { result ≡ leaving_want want (leaving_function want.function) }
+    ensures amount { HasAmount (arguments_of result.function) result }
+    ensures lease { result.lease ≡ want.lease }
+{
+    match leaving_function(want.function) {
+        Some(function) => Want { function, ..want },
+        None => want,
+    }
+}
+
+/// What a request asks for: what it began with, or to give its place in a queue up.
+pub(crate) fn want_at(waiter: Waiter) -> Want
+    requires { HasAmount (arguments_of waiter.want.function) waiter.want }
+    ensures value { result ≡ want_at waiter waiter.stage }
+    ensures amount { HasAmount (arguments_of result.function) result }
+    ensures lease { result.lease ≡ waiter.want.lease }
+{
+    let Waiter { want, stage, .. } = waiter;
+    match stage {
+        Stage::Leaving(_) => leaving_want(want),
+        Stage::Fresh(_)
+        | Stage::Asked(_)
+        | Stage::Joining
+        | Stage::Ready(_)
+        | Stage::Refused(_)
+        | Stage::Asleep(_) => want,
     }
 }
 

@@ -38,11 +38,11 @@ fn read(name: &Name) -> Want
     }
 }
 
-fn client(alloc: Global) -> SessionState {
+pub(crate) fn client(alloc: Global) -> SessionState {
     SessionState::new(alloc, Uuid::from_u128(1), 30_000)
 }
 
-fn is_phase(session: &SessionState, thread: u32, phase: Phase) -> bool {
+pub(crate) fn is_phase(session: &SessionState, thread: u32, phase: Phase) -> bool {
     session.phase(thread) == phase
 }
 
@@ -53,7 +53,7 @@ fn begins(session: &mut SessionState, thread: u32, name: &Name) -> bool
 }
 
 // Whether a thread sends its call by the ticket that it has.
-fn asks(session: &mut SessionState, thread: u32, moment: u64) -> bool
+pub(crate) fn asks(session: &mut SessionState, thread: u32, moment: u64) -> bool
     requires { moment ≤ last_moment }
 {
     match session.ticket(thread) {
@@ -63,7 +63,7 @@ fn asks(session: &mut SessionState, thread: u32, moment: u64) -> bool
 }
 
 // Whether a thread is told that the lock is busy for 400 ms, and is in this phase then.
-fn busy(session: &mut SessionState, thread: u32, phase: Phase) -> bool {
+pub(crate) fn busy(session: &mut SessionState, thread: u32, phase: Phase) -> bool {
     session
         .take(thread, &Reply::Busy(Remaining::new(400)))
         .is_ok()
@@ -71,7 +71,7 @@ fn busy(session: &mut SessionState, thread: u32, phase: Phase) -> bool {
 }
 
 // Whether the client hears the channel now, and so many threads may ask once more.
-fn hears(session: &mut SessionState, channel: Channel, threads: usize) -> bool {
+pub(crate) fn hears(session: &mut SessionState, channel: Channel, threads: usize) -> bool {
     match session.push(&Push::Subscribed(channel, 1)) {
         Ok(Pushed::Acked(_, asks)) => asks.len() == threads,
         _ => false,
@@ -88,7 +88,7 @@ fn joins(session: &mut SessionState, thread: u32, name: &Name) -> bool
 }
 
 // Whether a thread asks at moment 100, is refused and falls asleep until 500.
-fn sleeps(session: &mut SessionState, thread: u32) -> bool {
+pub(crate) fn sleeps(session: &mut SessionState, thread: u32) -> bool {
     asks(session, thread, 100)
         && busy(session, thread, Phase::Refused)
         && session.check(thread, 499) == Ok(CheckedStep::Asleep(Due::At(500)))

@@ -1,13 +1,13 @@
 //! How a thread waits: it looks before it sleeps, is woken, asks again by its timer, or gives up.
 ghost use Rattle.std.specs.Prelude.{◌≡◌, true, Some, None, IfOk, IfErr, IfSome, IfNone, OnOk, OnErr, OnSome};
 ghost use Rattle.lr_waiting.specs.Latch.{checked_in, woken_in};
-ghost use Rattle.lr_waiting.specs.Session.{phase_in, check_row, checked, wake_row, woken, fire_row, quit_row, entry_for, may_wait};
-ghost use Rattle.lr_waiting.specs.Told.{next_ticket, look_by, look_with, wakeup_by, wakeup_with, end_by};
+ghost use Rattle.lr_waiting.specs.Session.{phase_in, check_row, checked, wake_row, woken, fire_row, quit, quit_row, entry_for, leaving_function, may_wait};
+ghost use Rattle.lr_waiting.specs.Told.{next_ticket, look_by, look_with, wakeup_by, wakeup_with, end_by, end_with};
 ghost use Rattle.lr_session.specs.Told.{IsNotNow};
 ghost use Rattle.lr_session.specs.Value.{IsRequest, session_of};
 
 use crate::fault::SessionFault;
-use crate::stages::{asleep_at, at_stage, is_due, may_give_up, refused_at};
+use crate::stages::{asleep_at, at_stage, is_due, leaving_function, may_give_up, refused_at};
 use crate::state::SessionState;
 use lr_waiting::{Ask, Checked, CheckedStep, GaveUp, Refusal, Stage, Waiter, Woken, WokenStep};
 
@@ -132,8 +132,11 @@ impl SessionState {
         Ok(self.make_ready(thread, waiter))
     }
 
-    /// A thread that waits, or may ask once more, gives up: its request ends. `NotNow` where it
-    /// doesn't wait, or has sent its call. It takes no memory, and an error changes nothing.
+    /// A thread that waits, or may ask once more, gives up: its request ends. Where it may have a
+    /// place in a queue it gives that up first: it stays registered on its channel, and its request
+    /// ends with the reply to the call that it sends by its ticket. `NotNow` where it doesn't wait,
+    /// has sent its call, or gives its place up already. It takes no memory, and an error changes
+    /// nothing.
     pub fn give_up(&mut self, thread: u32) -> Result<GaveUp, SessionFault>
         ensures ok { OnOk result (Some (session_of self.new)
             ≡ quit_row thread (session_of self.old)) }
@@ -149,7 +152,24 @@ impl SessionState {
         if !may_give_up(waiter) {
             return Err(self.not_now(thread));
         }
-        self.end(thread, &waiter);
-        Ok(GaveUp::Done)
+        Ok(self.quit(thread, waiter))
+    }
+
+    // A thread that waits ends its request, or first gives its place in a queue up.
+    fn quit(&mut self, thread: u32, waiter: Waiter) -> GaveUp
+        requires request { IsRequest thread waiter }
+        requires begun { (session_of self.old).waiters thread ≡ Some waiter }
+        ensures session { session_of self.new ≡ quit thread waiter (session_of self.old) }
+        ensures told { result
+            ≡ end_with thread (session_of self.old) (leaving_function waiter.want.function) }
+        ensures room { self.new.room ≡ self.old.room }
+    {
+        match leaving_function(waiter.want.function) {
+            Some(_) => GaveUp::Leaving(self.make_leaving(thread, waiter)),
+            None => {
+                self.end(thread, &waiter);
+                GaveUp::Done
+            }
+        }
     }
 }
