@@ -11,8 +11,12 @@ usage: lockd play|serve|shell|audit|drill|race
 
   play       reads a schedule on standard input, and writes on standard output what each of its
              events did, a line for each.
-  serve, shell, audit, drill, race
-             are not there yet: only play works.
+  race THREADS CALLS
+             so many threads, 1 to 64, call one server at once, and each makes so many calls, 0 to
+             10000: it takes and gives back four locks in turn. Then the summary is written: the
+             threads, the entries of the server's history, and those of each caller.
+  serve, shell, audit, drill
+             are not there yet.
   --help     writes this text.
   --version  writes the program's name and version.
 
@@ -87,8 +91,9 @@ today:
   latch_count NAME          tells its count.
 
 A line that is no event ends the run, and standard error says why. Exit status: 0 where the
-schedule was run to its end, 2 where the words are no command, 3 where a read failed, 4 where a
-write failed, 5 at a line that is no event, 6 where memory ran out, 7 at a line outside the limits.
+schedule or the race was run to its end, 2 where the words are no command, 3 where a read failed, 4
+where a write failed, 5 at a line that is no event, 6 where memory ran out, 7 at a line outside the
+limits.
 
 Example, to be pasted at the top of the repository: client 1 takes the lock a for 30 seconds, and
 client 2 finds it busy.
@@ -100,4 +105,8 @@ Another, in which two threads wait for a lock, and one in which a message wakes 
 
   ./lockd play < examples/two_shops.txt
   ./lockd play < examples/gate_opens_for_all.txt
+
+A race of two threads that make three calls each:
+
+  ./lockd race 2 3
 ";
