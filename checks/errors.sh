@@ -47,6 +47,15 @@ all() {
     shows plya
     shows serve
     shows play x
+    shows race
+    shows race 2
+    shows race 0 1
+    shows race 65 1
+    shows race 02 3
+    shows race 2 x
+    shows race 1 10001
+    shows race 2 3 text
+    shows race 2 3
     shows "$(printf 'pl\377y')"
     shows play <&-
 }

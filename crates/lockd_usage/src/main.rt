@@ -4,5 +4,5 @@
 use std::process::ExitCode;
 
 fn main(rt: HostRuntime) -> ExitCode {
-    lr_program::run(&rt)
+    lr_program::run(&rt, &rt.stderr())
 }

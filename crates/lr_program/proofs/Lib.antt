@@ -1,1 +1,2 @@
+pub mod RaceLaws
 pub mod RecentLaws

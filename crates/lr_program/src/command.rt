@@ -1,7 +1,8 @@
 // What the words of the command line ask for.
-ghost use Rattle.std.specs.Prelude.{◌≡◌, ◌↔◌, [], ◌∷◌, IsTrue};
-ghost use Rattle.lr_program.specs.Commands.{IsHelp, IsVersion};
+ghost use Rattle.std.specs.Prelude.{◌≡◌, ◌↔◌, ℕ, [], ◌∷◌, IsTrue, IsNone, IfSome};
+ghost use Rattle.lr_program.specs.Commands.{IsHelp, IsVersion, IsRaceOf, AreNoRace};
 
+use crate::race::read_race;
 use lr_text::Text;
 
 /// What the words of the command line ask for.
@@ -11,7 +12,14 @@ pub enum Command {
     Help,
     /// The program's name and version.
     Version,
-    /// Anything else: one of the commands, or a fault.
+    /// Threads that call one server at once.
+    Race {
+        /// How many threads there are.
+        threads: u32,
+        /// How many calls each makes.
+        calls: u32,
+    },
+    /// Anything else: one of the other commands, or a fault.
     Run,
 }
 
@@ -19,11 +27,15 @@ pub enum Command {
 pub fn command_of(words: &[Text]) -> Command
     ensures help { (result ≡ Command.Help) ↔ IsHelp words.now }
     ensures version { (result ≡ Command.Version) ↔ IsVersion words.now }
+    ensures race { (threads calls : ℕ)
+        → (result ≡ Command.Race threads calls) ↔ IsRaceOf words.now threads calls }
 {
     if is_word(words, b"--help") {
         Command::Help
     } else if is_word(words, b"--version") {
         Command::Version
+    } else if let Some((threads, calls)) = race_of(words) {
+        Command::Race { threads, calls }
     } else {
         Command::Run
     }
@@ -43,4 +55,15 @@ fn has_bytes(word: &Text, text: &[u8]) -> bool
     ensures { IsTrue result ↔ (word.now ≡ text.now) }
 {
     word.as_slice() == text
+}
+
+// The threads and the calls of each, where the words ask for a race.
+fn race_of(words: &[Text]) -> Option<(u32, u32)>
+    ensures some { IfSome result (λ race. IsRaceOf words.now race.0 race.1) }
+    ensures none { IsNone result → AreNoRace words.now }
+{
+    match words {
+        [first, behind @ ..] if has_bytes(first, b"race") => read_race(behind).ok(),
+        _ => None,
+    }
 }

@@ -4,6 +4,7 @@ ghost use Rattle.lr_schedule.specs.Explanation.{explanation};
 ghost use Rattle.lr_program.specs.Recent.{pieces_of};
 ghost use Rattle.lr_program.specs.Remembering.{recent_of, Remembers};
 
+use crate::race::{MOST_CALLS, MOST_THREADS, RaceFault, RaceNumber, read_race};
 use crate::remembering_source::RememberingSource;
 use lr_outside::{Source, Status};
 use lr_schedule::explain;
@@ -11,11 +12,14 @@ use lr_text::Text;
 use std::alloc::Global;
 use std::{fmt, str};
 
-/// The commands that there are: each takes no further word.
+/// The commands that take no further word.
 const COMMANDS: [&[u8]; 3] = [b"play", b"--help", b"--version"];
 
+/// The command that takes two numbers.
+const RACE: &[u8] = b"race";
+
 /// The commands that aren't there yet.
-const LATER: [&[u8]; 5] = [b"serve", b"shell", b"audit", b"drill", b"race"];
+const LATER: [&[u8]; 4] = [b"serve", b"shell", b"audit", b"drill"];
 
 /// What is wrong with the words of a command line.
 #[derive(Clone, Copy)]
@@ -28,6 +32,11 @@ pub enum WordsFault<'a> {
     Later(&'a str),
     /// This word stands behind a command that takes no further word.
     TooMuch(&'a str),
+    /// This number isn't there behind `race`.
+    NoNumber(RaceNumber),
+    /// This word stands behind `race` at the place of the number, and doesn't spell one within its
+    /// limits.
+    BadNumber(RaceNumber, &'a str),
     /// A word isn't UTF-8.
     NotText,
 }
@@ -39,9 +48,26 @@ impl fmt::Display for WordsFault<'_> {
             WordsFault::Unknown(word) => write!(f, "lockd: {word:?} is no command")?,
             WordsFault::Later(word) => write!(f, "lockd: {word} isn't there yet")?,
             WordsFault::TooMuch(word) => write!(f, "lockd: {word:?} is too much")?,
+            WordsFault::NoNumber(number) => write!(f, "lockd: there is no {number}")?,
+            WordsFault::BadNumber(number, word) => write!(f, "lockd: {word:?} is no {number}")?,
             WordsFault::NotText => f.write_str("lockd: a word of the command line isn't UTF-8")?,
         }
         f.write_str("; lockd --help tells more")
+    }
+}
+
+// What it counts, where it stands on the command line, and its limits.
+impl fmt::Display for RaceNumber {
+    fn fmt<W: fmt::Write>(&self, f: &mut fmt::Formatter<W>) -> fmt::Result {
+        let (counted, place, least, most) = match self {
+            RaceNumber::Threads => ("threads", "THREADS", 1, MOST_THREADS),
+            RaceNumber::Calls => ("calls", "CALLS", 0, MOST_CALLS),
+        };
+        write!(
+            f,
+            "number of {counted}; the command is lockd race THREADS CALLS, \
+                with {place} from {least} to {most} and no leading zeros"
+        )
     }
 }
 
@@ -53,9 +79,24 @@ pub fn words_fault(words: &[Text]) -> WordsFault<'_> {
     if is_one_of(first, &LATER) {
         return WordsFault::Later(as_str(first));
     }
+    if let Some(fault) = race_fault(first, others) {
+        return fault;
+    }
     match others.first() {
         Some(word) if is_one_of(first, &COMMANDS) => WordsFault::TooMuch(as_str(word)),
         _ => WordsFault::Unknown(as_str(first)),
+    }
+}
+
+// What is wrong with the words of a race: `None` where they ask for none.
+fn race_fault<'a>(first: &Text, others: &'a [Text]) -> Option<WordsFault<'a>> {
+    if first.as_slice() != RACE {
+        return None;
+    }
+    match read_race(others).err()? {
+        RaceFault::Missing(number) => Some(WordsFault::NoNumber(number)),
+        RaceFault::Wrong(number, word) => Some(WordsFault::BadNumber(number, as_str(word))),
+        RaceFault::TooMuch(word) => Some(WordsFault::TooMuch(as_str(word))),
     }
 }
 

@@ -1,21 +1,28 @@
 // What the program does for the words of its command line.
-ghost use Rattle.std.specs.Prelude.{◌≡◌, ◌⊎◌, ◌↔◌, List, ℕ, Some};
+ghost use Rattle.std.specs.Prelude.{◌≡◌, ◌≢◌, ◌⊎◌, ◌↔◌, List, ℕ, Some, false};
 ghost use Rattle.lr_outside.specs.Lines.{lines_of};
 ghost use Rattle.lr_outside.specs.Turns.{CountsFaults, Rose};
 ghost use Rattle.lr_machine.specs.declared.event.Event.{Event};
 ghost use Rattle.lr_machine.specs.Transcript.{AreLinesOf};
 ghost use Rattle.lr_play.specs.Ends.{WhereTold, EndsSo, IsPlay, IsEndOfPlay, is_read_fault, is_write_fault};
-ghost use Rattle.lr_program.specs.Commands.{IsHelp, IsVersion, AreNoCommand, IsShown};
+ghost use Rattle.lr_drill.specs.Race.{IsRaceSize};
+ghost use Rattle.lr_drill.specs.Ends.{EndsRace};
+ghost use Rattle.lr_program.specs.Commands.{IsHelp, IsVersion, IsRaceOf, AreNoCommand, IsShown};
 
 use crate::command::{Command, command_of};
 use crate::texts::{HELP, VERSION};
+use lr_drill::race_top;
 use lr_outside::{Sink, Source, Status, write_whole};
 use lr_play::play_top;
 use lr_text::Text;
 use std::alloc::Global;
+use std::sync::Wait;
+use std::thread::Threads;
 
-/// Does what these words ask for, reading from the source and writing to the sink.
-pub fn obey<S: Source, K: Sink>(
+/// Does what these words ask for, reading from the source and writing to the sink. The threads of a
+/// race are started by the runtime.
+pub fn obey<R: Threads + Wait + Sync, S: Source, K: Sink>(
+    rt: &R,
     alloc: Global,
     words: &[Text],
     source: &mut S,
@@ -30,6 +37,10 @@ pub fn obey<S: Source, K: Sink>(
     // What is known at each end of `play`.
     ensures ends { IsPlay words.now → WhereTold (S.left source.old) (S.left source.new)
         (K.held sink.old) (K.held sink.new) (EndsSo result) }
+
+    // What is known at each end of a race.
+    ensures race { (threads calls : ℕ) → IsRaceOf words.now threads calls
+        → EndsRace threads calls (K.held sink.old) (K.held sink.new) result }
 
     // Other words are a usage fault: nothing is read or written.
     ensures usage { (result ≡ Status.Usage) ↔ AreNoCommand words.now }
@@ -54,8 +65,27 @@ pub fn obey<S: Source, K: Sink>(
     match command_of(words) {
         Command::Help => show(sink, HELP),
         Command::Version => show(sink, VERSION),
+        Command::Race { threads, calls } => race(rt, alloc, threads, calls, sink),
         Command::Run => play_top(alloc, words, source, sink),
     }
+}
+
+// Runs a race.
+fn race<R: Threads + Wait + Sync, K: Sink>(
+    rt: &R,
+    alloc: Global,
+    threads: u32,
+    calls: u32,
+    sink: &mut K,
+) -> Status
+    requires { IsRaceSize threads calls }
+    ensures ends { EndsRace threads calls (K.held sink.old) (K.held sink.new) result }
+    ensures counts { CountsFaults (K.faults sink.old) (K.faults sink.new) (is_write_fault result) }
+    ensures not_read { is_read_fault result ≡ false }
+    ensures not_usage { result ≢ Status.Usage }
+    ensures no_other { IsEndOfPlay result }
+{
+    race_top(rt, alloc, threads, calls, sink)
 }
 
 // Writes a text, and tells whether that went well.

@@ -1,11 +1,13 @@
 //! The program `lockd`, from the words of its command line to its exit status. `crates/lockd` has only
-//! its `main`, as have three more crates, each for a stored run with another exit status.
+//! its `main`, as have five more crates, each for a stored run of its own.
 #![tactic(auto)]
 
 mod command;
 mod complaint;
 mod dispatch;
 mod program;
+mod progress;
+mod race;
 mod recent_bytes;
 mod remembering_source;
 #[cfg(test)]

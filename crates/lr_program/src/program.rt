@@ -8,21 +8,29 @@ ghost use Rattle.lr_program.specs.Commands.{AreNoCommand};
 
 use crate::complaint::{WordsFault, explained, fault_text, words_fault};
 use crate::dispatch::obey;
+use crate::progress::announce;
 use crate::remembering_source::RememberingSource;
 use crate::texts::USAGE;
 use crate::words::read_words;
 use lr_outside::{InputSource, OutputSink, Source, Status};
 use lr_text::Text;
+use std::io::IsTerminal;
 use std::process::ExitCode;
 use std::rt::Env;
+use std::sync::Wait;
+use std::thread::Threads;
 use std::{io, str};
 
 /// Does what the command line asks for, on standard input and output, and says on standard error
-/// what went wrong. The exit status tells each fault, even where that can't be said.
-pub fn run<R: Env + Input + Print + Eprint + AllocGlobal>(rt: &R) -> ExitCode
+/// what went wrong. The exit status tells each fault, even where that can't be said. `errors` tells
+/// whether standard error is a terminal.
+pub fn run<R, E>(rt: &R, errors: &E) -> ExitCode
+where
+    R: Env + Input + Print + Eprint + AllocGlobal + Threads + Wait + Sync,
+    E: IsTerminal,
     ensures { (status : Status) × IsEndOfPlay status × (exit_status result ≡ number_of status) }
 {
-    let status = run_line(rt);
+    let status = run_line(rt, errors);
     if let Some(text) = fault_text(status) {
         let _ = rt.eprintln(text);
     }
@@ -35,11 +43,14 @@ fn exit_code(status: Status) -> ExitCode
     ExitCode::from(status.number())
 }
 
-fn run_line<R: Env + Input + Print + Eprint + AllocGlobal>(rt: &R) -> Status
+fn run_line<R, E>(rt: &R, errors: &E) -> Status
+where
+    R: Env + Input + Print + Eprint + AllocGlobal + Threads + Wait + Sync,
+    E: IsTerminal,
     ensures { IsEndOfPlay result }
 {
     match read_words(rt) {
-        Ok(words) => run_words(rt, words.as_slice()),
+        Ok(words) => run_words(rt, errors, words.as_slice()),
         Err(Status::Usage) => {
             complain_of_words(rt, &WordsFault::NotText);
             Status::Usage
@@ -49,13 +60,17 @@ fn run_line<R: Env + Input + Print + Eprint + AllocGlobal>(rt: &R) -> Status
 }
 
 // Does what these words ask for.
-fn run_words<R: Input + Print + Eprint + AllocGlobal>(rt: &R, words: &[Text]) -> Status
+fn run_words<R, E>(rt: &R, errors: &E, words: &[Text]) -> Status
+where
+    R: Input + Print + Eprint + AllocGlobal + Threads + Wait + Sync,
+    E: IsTerminal,
     ensures usage { (result ≡ Status.Usage) ↔ AreNoCommand words.now }
     ensures no_other { IsEndOfPlay result }
 {
     let mut source = RememberingSource::new(rt.alloc(), InputSource::new(rt.reader()));
     let mut sink = OutputSink::new(io::writer(rt));
-    let status = obey(rt.alloc(), words, &mut source, &mut sink);
+    announce(rt, errors, words);
+    let status = obey(rt, rt.alloc(), words, &mut source, &mut sink);
     match status {
         Status::Usage => complain_of_words(rt, &words_fault(words)),
         Status::BadLine(number) | Status::TooMany(number) => {

@@ -1,3 +1,4 @@
+use crate::command::{Command, command_of};
 use crate::complaint::words_fault;
 use crate::dispatch::obey;
 use crate::remembering_source::RememberingSource;
@@ -6,7 +7,9 @@ use lr_limits::LINE_BYTES;
 use lr_outside::{MemSink, MemSource, Status};
 use lr_text::{Items, Text};
 use std::alloc::{AllocError, Global};
+use std::sync::Wait;
 use std::test::Fail;
+use std::thread::Threads;
 
 const TICK: &str = "tick 5\n";
 
@@ -23,66 +26,168 @@ fn texts_of(alloc: Global, words: &[&str]) -> Result<Items, AllocError> {
 }
 
 // Whether these words end so and write this, where the writes of these numbers fail.
-fn ends(
-    alloc: Global,
+fn ends<R: AllocGlobal + Threads + Wait + Sync>(
+    rt: &R,
     words: &[&str],
     input: &str,
     failing: &[u64],
     status: Status,
     written: &[u8],
 ) -> Result<bool, AllocError> {
+    let alloc = rt.alloc();
     let words = texts_of(alloc, words)?;
     let pieces = [input.as_bytes()];
     let mut source = MemSource::new(&pieces, &[]);
     let mut sink = MemSink::new(alloc, failing);
-    let end = obey(alloc, words.as_slice(), &mut source, &mut sink);
+    let end = obey(rt, alloc, words.as_slice(), &mut source, &mut sink);
     Ok(end == status && sink.bytes() == written)
 }
 
-fn plays(alloc: Global, input: &str, status: Status, written: &str) -> Result<bool, AllocError> {
-    ends(alloc, &["play"], input, &[], status, written.as_bytes())
+fn plays<R: AllocGlobal + Threads + Wait + Sync>(
+    rt: &R,
+    input: &str,
+    status: Status,
+    written: &str,
+) -> Result<bool, AllocError> {
+    ends(rt, &["play"], input, &[], status, written.as_bytes())
 }
 
-fn plays_end(alloc: Global) -> Result<bool, AllocError> {
-    let done = plays(alloc, TICK, Status::Done, "1 moment 5\n")?;
+fn plays_end<R: AllocGlobal + Threads + Wait + Sync>(rt: &R) -> Result<bool, AllocError> {
+    let done = plays(rt, TICK, Status::Done, "1 moment 5\n")?;
     let bad = plays(
-        alloc,
+        rt,
         "tick 5\ntick 05",
         Status::BadLine(2),
         "1 moment 5\nbad line 2\n",
     )?;
-    let too_many = plays(alloc, "ask 65 1", Status::TooMany(1), "too many 1\n")?;
+    let too_many = plays(rt, "ask 65 1", Status::TooMany(1), "too many 1\n")?;
     Ok(done && bad && too_many)
 }
 
-fn texts_are_shown(alloc: Global) -> Result<bool, AllocError> {
-    let version = ends(alloc, &["--version"], TICK, &[], Status::Done, VERSION)?;
-    let help = ends(alloc, &["--help"], TICK, &[], Status::Done, HELP)?;
+fn texts_are_shown<R: AllocGlobal + Threads + Wait + Sync>(rt: &R) -> Result<bool, AllocError> {
+    let version = ends(rt, &["--version"], TICK, &[], Status::Done, VERSION)?;
+    let help = ends(rt, &["--help"], TICK, &[], Status::Done, HELP)?;
     Ok(version && help)
 }
 
-fn failed_writes_end(alloc: Global) -> Result<bool, AllocError> {
-    let play = ends(alloc, &["play"], TICK, &[1], Status::WriteFault, b"")?;
-    let help = ends(alloc, &["--help"], TICK, &[1], Status::WriteFault, b"")?;
+fn failed_writes_end<R: AllocGlobal + Threads + Wait + Sync>(rt: &R) -> Result<bool, AllocError> {
+    let play = ends(rt, &["play"], TICK, &[1], Status::WriteFault, b"")?;
+    let help = ends(rt, &["--help"], TICK, &[1], Status::WriteFault, b"")?;
     Ok(play && help)
 }
 
-fn other_words_end(alloc: Global) -> Result<bool, AllocError> {
-    let two = ends(alloc, &TWO_WORDS, TICK, &[], Status::Usage, b"")?;
-    let none = ends(alloc, &[], TICK, &[], Status::Usage, b"")?;
+fn other_words_end<R: AllocGlobal + Threads + Wait + Sync>(rt: &R) -> Result<bool, AllocError> {
+    let two = ends(rt, &TWO_WORDS, TICK, &[], Status::Usage, b"")?;
+    let none = ends(rt, &[], TICK, &[], Status::Usage, b"")?;
     Ok(two && none)
 }
 
 #[test]
 fn command_lines_have_their_ends(rt: HostRuntime) -> Result<(), Fail> {
+    let play = plays_end(&rt)? && failed_writes_end(&rt)?;
+    assert!(rt; play && texts_are_shown(&rt)? && other_words_end(&rt)?);
+    Ok(())
+}
+
+// Whether these words run a race that writes this.
+fn races<R: AllocGlobal + Threads + Wait + Sync>(
+    rt: &R,
+    words: &[&str],
+    written: &str,
+) -> Result<bool, AllocError> {
+    ends(rt, words, TICK, &[], Status::Done, written.as_bytes())
+}
+
+fn races_end<R: AllocGlobal + Threads + Wait + Sync>(rt: &R) -> Result<bool, AllocError> {
+    let two = races(
+        rt,
+        &["race", "2", "3"],
+        "threads 2\nentries 6\ncaller 1 3\ncaller 2 3\n",
+    )?;
+    let idle = races(
+        rt,
+        &["race", "1", "0"],
+        "threads 1\nentries 0\ncaller 1 0\n",
+    )?;
+    let failed = ends(rt, &["race", "1", "0"], TICK, &[1], Status::WriteFault, b"")?;
+    Ok(two && idle && failed)
+}
+
+#[test]
+fn races_have_their_ends(rt: HostRuntime) -> Result<(), Fail> {
+    assert!(rt; races_end(&rt)?);
+    Ok(())
+}
+
+// Whether these words ask for no race, and this is said of them.
+fn is_no_race(alloc: Global, words: &[&str], said: &str) -> Result<bool, AllocError> {
+    let texts = texts_of(alloc, words)?;
+    let is_run = command_of(texts.as_slice()) == Command::Run;
+    Ok(is_run && is_said(alloc, words, said)?)
+}
+
+// Whether it is said that this is no number of threads, and what is.
+fn is_no_threads(alloc: Global, words: &[&str], fault: &str) -> Result<bool, AllocError> {
+    let form = "lockd race THREADS CALLS, with THREADS from 1 to 64 and no leading zeros";
+    let said = format!(in alloc;
+        "lockd: {fault} number of threads; the command is {form}; lockd --help tells more"
+    )?;
+    is_no_race(alloc, words, said.as_str())
+}
+
+// Whether it is said that this is no number of calls, and what is.
+fn is_no_calls(alloc: Global, words: &[&str], fault: &str) -> Result<bool, AllocError> {
+    let form = "lockd race THREADS CALLS, with CALLS from 0 to 10000 and no leading zeros";
+    let said = format!(in alloc;
+        "lockd: {fault} number of calls; the command is {form}; lockd --help tells more"
+    )?;
+    is_no_race(alloc, words, said.as_str())
+}
+
+fn is_race(alloc: Global, words: &[&str], threads: u32, calls: u32) -> Result<bool, AllocError> {
+    let texts = texts_of(alloc, words)?;
+    Ok(command_of(texts.as_slice()) == Command::Race { threads, calls })
+}
+
+fn races_are_read(alloc: Global) -> Result<bool, AllocError> {
+    let small = is_race(alloc, &["race", "1", "0"], 1, 0)?;
+    let two = is_race(alloc, &["race", "2", "3"], 2, 3)?;
+    let large = is_race(alloc, &["race", "64", "10000"], 64, 10_000)?;
+    Ok(small && two && large)
+}
+
+fn other_threads_are_refused(alloc: Global) -> Result<bool, AllocError> {
+    let missing = is_no_threads(alloc, &["race"], "there is no")?;
+    let none = is_no_threads(alloc, &["race", "0", "1"], "\"0\" is no")?;
+    let many = is_no_threads(alloc, &["race", "65", "1"], "\"65\" is no")?;
+    let spelled = is_no_threads(alloc, &["race", "02", "3"], "\"02\" is no")?;
+    Ok(missing && none && many && spelled)
+}
+
+fn other_calls_are_refused(alloc: Global) -> Result<bool, AllocError> {
+    let missing = is_no_calls(alloc, &["race", "2"], "there is no")?;
+    let word = is_no_calls(alloc, &["race", "2", "x"], "\"x\" is no")?;
+    let many = is_no_calls(alloc, &["race", "1", "10001"], "\"10001\" is no")?;
+    let text = "lockd: \"text\" is too much; lockd --help tells more";
+    let more = is_no_race(alloc, &["race", "2", "3", "text"], text)?;
+    Ok(missing && word && many && more)
+}
+
+#[test]
+fn words_of_races_are_read(rt: HostRuntime) -> Result<(), Fail> {
     let alloc = rt.alloc();
-    let play = plays_end(alloc)? && failed_writes_end(alloc)?;
-    assert!(rt; play && texts_are_shown(alloc)? && other_words_end(alloc)?);
+    let refused = other_threads_are_refused(alloc)? && other_calls_are_refused(alloc)?;
+    assert!(rt; refused && races_are_read(alloc)?);
     Ok(())
 }
 
 // Whether this line is the one that is remembered at its number, behind so many good ones.
-fn is_remembered(alloc: Global, good: u64, line: &[u8]) -> Result<bool, AllocError> {
+fn is_remembered<R: AllocGlobal + Threads + Wait + Sync>(
+    rt: &R,
+    good: u64,
+    line: &[u8],
+) -> Result<bool, AllocError> {
+    let alloc = rt.alloc();
     let mut input = Vec::new(alloc);
     for _ in 0..good {
         input.extend_from_slice(TICK.as_bytes())?;
@@ -93,23 +198,25 @@ fn is_remembered(alloc: Global, good: u64, line: &[u8]) -> Result<bool, AllocErr
     let mut source = RememberingSource::new(alloc, MemSource::new(&pieces, &[]));
     let mut sink = MemSink::new(alloc, &[]);
     let words = texts_of(alloc, &["play"])?;
-    let status = obey(alloc, words.as_slice(), &mut source, &mut sink);
+    let status = obey(rt, alloc, words.as_slice(), &mut source, &mut sink);
     let number = good.saturating_add(1);
     Ok(status == Status::BadLine(number) && source.line(number) == Some(line))
 }
 
 // A line is remembered wherever it stands, whole where it isn't too long.
-fn lines_are_remembered(alloc: Global) -> Result<bool, AllocError> {
-    let first = is_remembered(alloc, 0, b"tick 05")?;
-    let empty = is_remembered(alloc, 7, b"")?;
-    let late = is_remembered(alloc, 20_000, b"begin 1 1 once lock_tyr a 5")?;
-    let too_long = is_remembered(alloc, 1_169, &TOO_LONG)?;
+fn lines_are_remembered<R: AllocGlobal + Threads + Wait + Sync>(
+    rt: &R,
+) -> Result<bool, AllocError> {
+    let first = is_remembered(rt, 0, b"tick 05")?;
+    let empty = is_remembered(rt, 7, b"")?;
+    let late = is_remembered(rt, 20_000, b"begin 1 1 once lock_tyr a 5")?;
+    let too_long = is_remembered(rt, 1_169, &TOO_LONG)?;
     Ok(first && empty && late && too_long)
 }
 
 #[test]
 fn refused_lines_are_remembered(rt: HostRuntime) -> Result<(), Fail> {
-    assert!(rt; lines_are_remembered(rt.alloc())?);
+    assert!(rt; lines_are_remembered(&rt)?);
     Ok(())
 }
 

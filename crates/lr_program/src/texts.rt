@@ -11,8 +11,12 @@ usage: lockd play|serve|shell|audit|drill|race
 
   play       reads a schedule on standard input, and writes on standard output what each of its
              events did, a line for each.
-  serve, shell, audit, drill, race
-             are not there yet: only play works.
+  race THREADS CALLS
+             so many threads, 1 to 64, call one server at once, and each makes so many calls, 0 to
+             10000: it takes and gives back four locks in turn. Then the summary is written: the
+             threads, the entries of the server's history, and those of each caller.
+  serve, shell, audit, drill
+             are not there yet.
   --help     writes this text.
   --version  writes the program's name and version.
 
@@ -21,9 +25,9 @@ A schedule has one event on each line, as words with single spaces between them:
   begin C T W FUNCTION NAME ..
              thread T, 1 to 256, of client C, 1 to 64, begins a request. W says whether it waits
              where its call is refused: once, where it doesn't; or long, or as many milliseconds as
-             it means to wait, 1 to 86400000000. Those that may wait are lock_try, fenced_try,
-             rw_read, rw_write, sem_try, permit_try, and latch_count, which waits for a count of 0.
-             No clock ends their wait, but quit does.
+             it means to wait, 1 to 86400000000. Those that may wait are lock_try, fair_try,
+             fenced_try, rw_read, rw_write, sem_try, permit_try, and latch_count, which waits for a
+             count of 0. No clock ends their wait, but quit does.
   ask C T    its call is sent.
   exec C T   the server executes the call, now.
   take C T   the thread takes the reply, and its request ends: done. But if it waits and the reply
@@ -35,9 +39,10 @@ A schedule has one event on each line, as words with single spaces between them:
 
 The threads of a client that wait for the same object share a subscription to its channel. For a
 lock or a fenced lock they share permits too, each of which lets one of them ask again. A message
-brings a permit; so does a thread that ends, by quit or with its reply, while others wait. For any
-other object a message wakes all: it counts up a number that they share, and lets each of them ask
-again that sent its call before.
+brings a permit; so does a thread that ends, by quit or with its reply, while others wait. A fair
+lock has a channel for each thread that waits in its queue, and a permit for each. For any other
+object a message wakes all: it counts up a number that they share, and lets each of them ask again
+that sent its call before.
 
   sub C      the server gets the oldest order of the client: subscribe, when the first thread waits,
              or unsubscribe, when the last has ended. The number of the client's channels is shown.
@@ -48,7 +53,8 @@ again that sent its call before.
              for all came since it asked, or its moment has come, and else asleep.
   wake C T   a sleeping thread takes a permit, or a message for all came since it asked: it is ready.
   fire C T   a sleeping thread's moment has come, and it is ready.
-  quit C T   a thread that is joining, ready, refused or asleep gives up.
+  quit C T   a thread that is joining, ready, refused or asleep gives up. In the queue of a fair lock
+             it is leaving then: its next call gives its place up, and ends it.
   cut C      the client's two connections are closed, and its threads end.
   show       for each thread that sleeps, as C T, the first of these that stands for it. Where a
              message wakes one: message (one is on its way), permit (one is unused), awake (another
@@ -57,7 +63,8 @@ again that sent its call before.
              timer and its own moment. Where none sleeps: none.
 
 Where an event doesn't apply nothing changes. Its line shows no and what was found: the phase of
-the thread (idle, fresh, asked, answered, joining, ready, refused, asleep), cut, orders or pushes.
+the thread (idle, fresh, asked, answered, joining, ready, refused, asleep, leaving), cut, orders or
+pushes.
 For a client that doesn't read the server keeps 16384 items; with the next it is cut off.
 
 A FUNCTION is called with the NAME of an object (letters, digits, _, . and -), and, as is shown
@@ -66,6 +73,10 @@ today:
 
   lock_try NAME LEASE       takes the lock for LEASE, where it is free or the thread holds it.
   lock_unlock NAME LEASE    gives a hold back. Where more are left, they last for LEASE from now.
+  fair_try NAME LEASE       takes the fair lock, where nobody else holds it or is before the thread.
+                            Who is refused and waits gets a place in the queue, which goes stale 5
+                            seconds after the thread was to ask again.
+  fair_unlock NAME LEASE    gives a hold back. At the last the first in the queue is told.
   rw_read NAME LEASE        takes the read-write lock to read, where no other thread writes.
   rw_write NAME LEASE       takes it to write, where nobody holds it or the thread writes.
   rw_unlock_read NAME LEASE gives a hold to read back.
@@ -87,8 +98,9 @@ today:
   latch_count NAME          tells its count.
 
 A line that is no event ends the run, and standard error says why. Exit status: 0 where the
-schedule was run to its end, 2 where the words are no command, 3 where a read failed, 4 where a
-write failed, 5 at a line that is no event, 6 where memory ran out, 7 at a line outside the limits.
+schedule or the race was run to its end, 2 where the words are no command, 3 where a read failed, 4
+where a write failed, 5 at a line that is no event, 6 where memory ran out, 7 at a line outside the
+limits.
 
 Example, to be pasted at the top of the repository: client 1 takes the lock a for 30 seconds, and
 client 2 finds it busy.
@@ -96,8 +108,14 @@ client 2 finds it busy.
   printf '%s\\n' 'begin 1 1 once lock_try a 30000' 'ask 1 1' 'exec 1 1' 'take 1 1' \\
     'begin 2 1 once lock_try a 5' 'ask 2 1' 'exec 2 1' 'take 2 1' | ./lockd play
 
-Another, in which two threads wait for a lock, and one in which a message wakes three:
+Another, in which two threads wait for a lock, one in which a message wakes three, and one in which
+three wait in the queue of a fair lock:
 
   ./lockd play < examples/two_shops.txt
   ./lockd play < examples/gate_opens_for_all.txt
+  ./lockd play < examples/queue_of_three.txt
+
+A race of two threads that make three calls each:
+
+  ./lockd race 2 3
 ";

@@ -1,0 +1,11 @@
+use Rattle.std.proofs.Common.{refl}
+use Rattle.lr_program.proofs.dispatch.obey.Goals as goal
+
+pub race-requires-after_bounds : goal.race-requires-after_bounds
+race-requires-after_bounds g c κs within =
+    ((c.in-Race.ensures.race c.in-Race.threads c.in-Race.calls).0 refl).size
+
+pub returns-in-Race-clause-usage : goal.returns-in-Race-clause-usage
+returns-in-Race-clause-usage g c =
+    let is = (c.in-Race.ensures.race c.in-Race.threads c.in-Race.calls).0 refl in
+    (λ e. absurd (c.race.ensures.not_usage e), λ none. absurd (none.3 _ _ is))
