@@ -1,0 +1,7 @@
+pub mod QueueLaws
+pub mod StaleLaws
+pub mod ChangeLemmas
+pub mod StepLemmas
+pub mod TurnLemmas
+pub mod RunLemmas
+pub mod StandsLaws

@@ -1,0 +1,4 @@
+pub mod Queue
+pub mod Step
+pub mod Stands
+pub mod Run
