@@ -1,6 +1,6 @@
 -- Those who were refused a fair lock, at each change.
-use Rattle.std.proofs.Common.{◌≡◌, ℕ, ◌<◌, ◌≤◌, List, Bool, true, false, Option, Some, None, refl, ap, sym, ◌∙◌, subst, ◌&&◌, ◌⊎◌, inl, inr}
-use Rattle.std.proofs.lemmas.Bool.{and_from, false≢true, cases_eq}
+use Rattle.std.proofs.Common.{◌≡◌, ℕ, ◌<◌, ◌≤◌, List, Bool, true, false, Option, Some, None, is_some, refl, ap, sym, ◌∙◌, subst, ◌&&◌, ◌⊎◌, inl, inr}
+use Rattle.std.proofs.lemmas.Bool.{and_parts, and_from, false≢true, cases_eq}
 use Rattle.lr_limits.specs.Limits.{thread_limit}
 use Rattle.lr_names.specs.Channel.{ChannelOf, is_fair}
 use Rattle.lr_names.specs.Owner.{ThreadOfClient}
@@ -15,9 +15,9 @@ use Rattle.lr_waiting.specs.declared.waiter.Waiter.{Waiter}
 use Rattle.lr_model.specs.Board.{same_channel, Connection}
 use Rattle.lr_model.proofs.SameChannel.{same_self}
 use Rattle.lr_waiting.specs.Client.{Client, waiter_in}
-use Rattle.lr_waiting.specs.Session.{at_stage, channel_for, channel_in}
+use Rattle.lr_waiting.specs.Session.{at_stage, channel_for, channel_in, leaving_function}
 use Rattle.lr_waiting.specs.Stand.{in_flight, due_at}
-use Rattle.lr_wakeups.specs.Joining.{gives_up_at}
+use Rattle.lr_wakeups.specs.Joining.{is_queue_leave, gives_up_at}
 use Rattle.lr_wakeups.specs.Queued.{HasPlace, QueuedWith, QueuedIn, IsLeftQueued, QueueGoesOn, NobodyIsBlocked}
 use Rattle.lr_wakeups.specs.Reached.{Present}
 use Rattle.lr_wakeups.specs.Registered.{registered_with, is_registered}
@@ -104,7 +104,10 @@ module _ (present : Present) (id : List ℕ) (thread : ℕ) where
         absurd (false≢true (sym (left.untold inside fair (refused blocked)) ∙ now));
     ends = λ gives.
         ap (λ s. is_blocked_at s (Some answer) waiter.want.function) asked
-        ∙ left.ends (sym (ap (λ s. gives_up_at s waiter.want.function) asked) ∙ gives);
+        ∙ left.ends
+        (and_parts (is_some (leaving_function waiter.want.function))
+        (is_queue_leave asking.op.call)
+        (sym (ap (λ s. gives_up_at s waiter.want.function) asked) ∙ gives)).1;
   }
     where
       refused : is_blocked_at waiter.stage (Some answer) waiter.want.function ≡ true

@@ -369,9 +369,10 @@ module _ (n : ℕ) (present : Present) (client : Client) (connection : Connectio
           changes = changes;
           fits = subst (λ s. FitsStage s waiter.registered) refused
               (placed_was thread None client after within facts.placed waiter was).fits;
-          joins = λ stays.
-              (ap (λ s. gives_up_at s waiter.want.function) refused,
-              sym (ap is_joining_at refused));
+          joins = λ stays. (
+            ap (λ s. gives_up_at s waiter.want.function) refused,
+            sym (ap is_joining_at refused),
+          );
           reply_fits = λ asked. refl;
         })
         (latch_facts n present client connection facts) (λ q. refl) (λ q. refl)
@@ -546,11 +547,12 @@ module _ (n : ℕ) (present : Present) (client : Client) (connection : Connectio
         (record {
           changes = changes;
           fits = inside;
-          joins = λ stays.
-              (refused_stays present client.session.client thread
-              client.session.latches.entries connection.outbox (client.replies thread) waiter
-              was_queued was_blocked,
-              sym (ap is_joining_at asked));
+          joins = λ stays. (
+            refused_stays present client.session.client thread
+                client.session.latches.entries connection.outbox (client.replies thread) waiter
+                was_queued was_blocked,
+            sym (ap is_joining_at asked),
+          );
           reply_fits = λ not_asked. refl;
         })
         (latch_facts n present client connection facts) (λ q. refl) (λ q. refl)

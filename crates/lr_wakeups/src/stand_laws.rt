@@ -1,10 +1,11 @@
-ghost use Rattle.std.specs.Prelude.{ℕ};
-ghost use Rattle.lr_names.specs.Channel.{ChannelOf};
+ghost use Rattle.std.specs.Prelude.{◌≡◌, ℕ, true};
+ghost use Rattle.lr_names.specs.Channel.{ChannelOf, is_fair};
 ghost use Rattle.lr_model.specs.Board.{Connection};
 ghost use Rattle.lr_waiting.specs.Client.{Client};
 ghost use Rattle.lr_wakeups.specs.Facts.{Facts};
 ghost use Rattle.lr_wakeups.specs.Queued.{NoLostTurn};
 ghost use Rattle.lr_wakeups.specs.Reached.{Present, NoLostBroadcast};
+ghost use Rattle.lr_wakeups.specs.Registered.{is_registered};
 ghost use Rattle.lr_wakeups.specs.Standing.{NoLostWakeup};
 
 /// Where the facts are so, something stands for each thread that sleeps on a channel where a message
@@ -29,4 +30,11 @@ pub fn no_broadcast_is_lost()
 pub fn no_turn_is_lost()
     ensures { (n : ℕ) (present : Present) (client : Client) (connection : Connection)
         → Facts n present client connection → NoLostTurn present client connection }
+{}
+
+/// On the channel of a fair lock one thread is registered at most: the owner that the channel names.
+pub fn one_thread_waits_for_its_turn()
+    ensures { (channel : ChannelOf) (client : Client) (thread other : ℕ)
+        → is_fair channel.kind ≡ true → is_registered channel client thread ≡ true
+        → is_registered channel client other ≡ true → other ≡ thread }
 {}
