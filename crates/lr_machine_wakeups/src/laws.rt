@@ -23,9 +23,9 @@ pub fn the_facts_hold_throughout()
 {}
 
 /// And what is told to stand for a thread that sleeps is never nothing, and no timer that is too
-/// late: later than the peak of a lock, later than now where permits are waited for, or too late for
-/// its place where it sleeps for a fair lock. That place is in the queue until it goes stale, and a
-/// message that was sent to the thread since it asked is on its way or has left a permit.
+/// late: later than the peak of a lock, later than now where permits are waited for, or too late
+/// for its place where it sleeps for a fair lock. That place is in the queue until it goes stale,
+/// and a message that was sent to the thread since it asked is on its way or has left a permit.
 pub fn no_wakeup_is_lost_in_any_schedule()
     ensures { ThroughoutEverySchedule (λ n world. NoWakeupIsLost world) }
 {}

@@ -147,7 +147,7 @@ pub queued_changes : (present : Present) (thread : ℕ) (found : Option Waiter)
     → (after.session.latches.entries q).permits ≡ (before.session.latches.entries q).permits)
     → ((t : ℕ) → t ≤ thread_limit → QueuedIn present before connection t)
     → (t : ℕ) → t ≤ thread_limit → QueuedIn present after connection t
-queued_changes present thread found reply before after changes connection here permits queued t within =
+queued_changes present thread found reply before after changes connection here permits were t within =
     by (cases_eq t thread)
   where
     -- it is written as of the client afterwards
@@ -190,7 +190,7 @@ queued_changes present thread found reply before after changes connection here p
         written t (before.replies t) (waiter_in before t) (changes.answers t apart)
         (changes.waiters t apart)
         (queued_there present before after.session.latches.entries connection.outbox
-        connection.outbox t (others apart) (waiter_in before t) refl (queued t within))
+        connection.outbox t (others apart) (waiter_in before t) refl (were t within))
 
 -- who was refused is blocked on its own channel
 pub blocked_there : (client : Client) (t : ℕ) (waiter : Waiter)
@@ -220,14 +220,15 @@ pub queued_goes_on : (present then_ : Present) (told acts : ChannelOf → Bool)
     (client.replies t) found
     → QueuedWith then_ client.session.client client.session.latches.entries after t
     (client.replies t) found
-queued_goes_on present then_ told acts goes client nobody t within outbox after message flies None is queued = tt
-queued_goes_on present then_ told acts goes client nobody t within outbox after message flies (Some waiter) is queued = record {
+queued_goes_on present then_ told acts goes client nobody t within box after says flies None is were =
+    tt
+queued_goes_on present then_ told acts goes client nobody t within box after says flies (Some waiter) is were = record {
   place = λ inside fair blocked.
       subst (λ l. HasPlace l (due_at waiter.stage (client.replies t)))
       (sym (goes.places q (others (acts q) refl inside blocked)))
-      (queued.place inside fair blocked);
+      (were.place inside fair blocked);
   told = λ inside fair blocked now. by (told q) refl inside fair blocked now;
-  ends = queued.ends;
+  ends = were.ends;
 }
   where
     q : ChannelOf
@@ -252,14 +253,14 @@ queued_goes_on present then_ told acts goes client nobody t within outbox after 
         (channel_in client.session t waiter)
     by true e inside fair blocked now =
         inl
-        (message (channel_in client.session t waiter)
+        (says (channel_in client.session t waiter)
         (blocked_there client t waiter is inside blocked) e)
     by false e inside fair blocked now =
         carry
-        (queued.told inside fair blocked
+        (were.told inside fair blocked
         (goes.untold (channel_in client.session t waiter) e now))
       where
-        carry : Tells outbox
+        carry : Tells box
             (client.session.latches.entries (channel_in client.session t waiter))
             (channel_in client.session t waiter)
             → Tells after

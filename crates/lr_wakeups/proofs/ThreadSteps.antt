@@ -47,8 +47,10 @@ latch_facts n present client connection facts =
 outside_free : (function : Function) (stage : Stage) (registered : Bool)
     → FitsStage stage registered → registered ≡ false
     → is_blocked_at stage None function ≡ false
-outside_free function (Refused refusal) registered fits outside = absurd (false≢true (sym outside ∙ fits))
-outside_free function (Asleep refusal) registered fits outside = absurd (false≢true (sym outside ∙ fits))
+outside_free function (Refused refusal) registered fits outside =
+    absurd (false≢true (sym outside ∙ fits))
+outside_free function (Asleep refusal) registered fits outside =
+    absurd (false≢true (sym outside ∙ fits))
 outside_free function (Asked asking) registered fits outside = refl
 outside_free function _ registered fits outside = refl
 
@@ -138,28 +140,28 @@ module _ (n : ℕ) (present : Present) (client : Client) (connection : Connectio
         → ((q : ChannelOf) → is_registered q client thread ≡ false
         → (after.session.latches.entries q).permits ≡ (client.session.latches.entries q).permits)
         → Facts n present after connection
-    restaged stage reply after restages latched registered heard covered numbers here queued permits = record {
+    restaged stage reply after to latched registered heard covered numbers here queued permits = record {
       accounted = latched.accounted;
       matched = latched.matched;
       bounded = latched.bounded;
       counted = λ q.
-          count_restaged thread reply client after within waiter was stage restages.changes q
+          count_restaged thread reply client after within waiter was stage to.changes q
           (registered q) (facts.counted q);
       placed = place_restaged thread reply client after within facts.placed waiter was stage
-          restages.changes restages.fits restages.joins heard;
+          to.changes to.fits to.joins heard;
       answered = answered_changes thread (Some (at_stage stage waiter)) reply client after
-          restages.changes restages.reply_fits facts.answered;
+          to.changes to.reply_fits facts.answered;
       covered = covered;
       few = λ q. subst (λ k. k ≤ n) (sym (numbers q)) (facts.few q);
       reached = reached_changes present thread (Some (at_stage stage waiter)) reply client after
-          restages.changes connection
+          to.changes connection
           (reached_moved present client.session.client thread client.session.latches.entries
           after.session.latches.entries connection.outbox connection.outbox reply
           (at_stage stage waiter)
           (λ inside. numbers (channel_in client.session thread waiter)) (λ quiet. quiet) here)
           (λ t apart under q there. numbers q) facts.reached;
       queued = queued_changes present thread (Some (at_stage stage waiter)) reply client after
-          restages.changes connection queued permits facts.queued;
+          to.changes connection queued permits facts.queued;
     }
 
     -- what is so of it before

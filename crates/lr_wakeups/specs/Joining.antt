@@ -30,8 +30,8 @@ abbrev pub is_queue_leave : Call → Bool
 is_queue_leave (Fair call) = is_fair_leave call
 is_queue_leave _ = false
 
--- whether a request for a function gives its place up: it is to send that call, or has sent it. Only
--- one for a fair lock does.
+-- Whether a request for a function gives its place up: it is to send that call, or has sent it.
+-- Only one for a fair lock does.
 abbrev pub gives_up_at : Stage → Function → Bool
 gives_up_at (Leaving turn) function = is_some (leaving_function function)
 gives_up_at (Asked asking) function =
