@@ -492,7 +492,7 @@ kept-hearing : (n : ℕ) (world : World) (c : ℕ) (client : Client) (now : Conn
     → ((channel : ChannelOf) (told : Bool)
     → told_by_act channel (state_of world) entry.moment entry.act told ≡ told)
     → Kept n world → Kept n (with_entry entry (next_row world c (Some client)))
-kept-hearing n world c client now entry within facts asked board same quiet alike mute kept = record {
+kept-hearing n world c client now entry is facts asked board same quiet stay mute kept = record {
   facts = λ d within.
       facts-moved n (present_of world)
       (present_of (with_entry entry (next_row world c (Some client))))
@@ -510,7 +510,7 @@ kept-hearing n world c client now entry within facts asked board same quiet alik
             (quiet channel (peak_after channel.kind channel.name first_state world.entries 0));
         left = λ channel.
             left-entry entry (next_row world c (Some client)) channel
-            ∙ alike channel (left_of world channel);
+            ∙ stay channel (left_of world channel);
         told = λ channel.
             told-entry entry (next_row world c (Some client)) channel
             ∙ mute channel (told_of world channel);

@@ -140,7 +140,7 @@ module _ (n : ℕ) (present : Present) (client : Client) (connection : Connectio
         → ((q : ChannelOf) → is_registered q client thread ≡ false
         → (after.session.latches.entries q).permits ≡ (client.session.latches.entries q).permits)
         → Facts n present after connection
-    restaged stage reply after to latched registered heard covered numbers here queued permits = record {
+    restaged stage reply after to latched registered heard covered numbers here queued stay = record {
       accounted = latched.accounted;
       matched = latched.matched;
       bounded = latched.bounded;
@@ -161,7 +161,7 @@ module _ (n : ℕ) (present : Present) (client : Client) (connection : Connectio
           (λ inside. numbers (channel_in client.session thread waiter)) (λ quiet. quiet) here)
           (λ t apart under q there. numbers q) facts.reached;
       queued = queued_changes present thread (Some (at_stage stage waiter)) reply client after
-          to.changes connection queued permits facts.queued;
+          to.changes connection queued stay facts.queued;
     }
 
     -- what is so of it before

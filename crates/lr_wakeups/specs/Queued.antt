@@ -1,5 +1,6 @@
 -- What is so of those who were refused a fair lock: each has a place in the queue for longer than
--- it sleeps, and a message that was sent to it since it asked has not been lost. This project's own.
+-- it sleeps, and a message that was sent to it since it asked has not been lost. This project's
+-- own.
 use Rattle.std.specs.Prelude.{◌≡◌, ◌⊎◌, ℕ, ◌+◌, ◌<◌, ◌≤◌, List, Bool, true, false, Option, Some, None}
 use Rattle.lr_limits.specs.Limits.{thread_limit}
 use Rattle.lr_names.specs.Channel.{ChannelOf, is_fair}
