@@ -140,7 +140,7 @@ module _ (n : ℕ) (present : Present) (client : Client) (connection : Connectio
         → ((q : ChannelOf) → is_registered q client thread ≡ false
         → (after.session.latches.entries q).permits ≡ (client.session.latches.entries q).permits)
         → Facts n present after connection
-    restaged stage reply after to latched registered heard covered numbers here queued stay = record {
+    restaged stage reply after to latched registered heard covered number here place stay = record {
       accounted = latched.accounted;
       matched = latched.matched;
       bounded = latched.bounded;
@@ -152,16 +152,16 @@ module _ (n : ℕ) (present : Present) (client : Client) (connection : Connectio
       answered = answered_changes thread (Some (at_stage stage waiter)) reply client after
           to.changes to.reply_fits facts.answered;
       covered = covered;
-      few = λ q. subst (λ k. k ≤ n) (sym (numbers q)) (facts.few q);
+      few = λ q. subst (λ k. k ≤ n) (sym (number q)) (facts.few q);
       reached = reached_changes present thread (Some (at_stage stage waiter)) reply client after
           to.changes connection
           (reached_moved present client.session.client thread client.session.latches.entries
           after.session.latches.entries connection.outbox connection.outbox reply
           (at_stage stage waiter)
-          (λ inside. numbers (channel_in client.session thread waiter)) (λ quiet. quiet) here)
-          (λ t apart under q there. numbers q) facts.reached;
+          (λ inside. number (channel_in client.session thread waiter)) (λ quiet. quiet) here)
+          (λ t apart under q there. number q) facts.reached;
       queued = queued_changes present thread (Some (at_stage stage waiter)) reply client after
-          to.changes connection queued stay facts.queued;
+          to.changes connection place stay facts.queued;
     }
 
     -- what is so of it before
