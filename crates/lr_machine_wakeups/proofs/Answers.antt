@@ -1,4 +1,5 @@
--- A reply that refuses a call, on a channel where a message wakes one of many, gives a timer in time.
+-- A reply that refuses a call, on a channel where a message wakes one of many, gives a timer in
+-- time.
 use Rattle.std.proofs.Common.{◌≡◌, ℕ, ◌+◌, ◌-◌, ◌≤◌, ◌<◌, ◌==◌, List, Bool, true, false, Option, Some, None, if◌then◌else◌, refl, sym, ap, ◌∙◌, subst, arith}
 use Rattle.std.proofs.lemmas.Bool.{false≢true, ltb-true}
 use Rattle.std.proofs.lemmas.Option.{same_Some}

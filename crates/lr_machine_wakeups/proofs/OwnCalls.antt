@@ -169,12 +169,13 @@ pub caller-unblocked : (c t : ℕ) (clients : ℕ → Client) (moment : ℕ) (mo
     → asked_of (clients c) t ≡ Some asking
     → (d : ℕ) → IsClient d → (clients d).session.client ≡ client_id d
     → NobodyIsBlocked (λ q. is_own_call q asking.op) (clients d)
-caller-unblocked c t clients moment mode want asking caller sent asked d other id q thread own within =
-    by (is_blocked q (clients d) thread) refl
+caller-unblocked c t clients moment mode want asking caller sent asked d other id =
+    λ q thread own within. by q thread own (is_blocked q (clients d) thread) refl
   where
-    by : (b : Bool) → is_blocked q (clients d) thread ≡ b → b ≡ false
-    by false e = refl
-    by true e =
+    by : (q : ChannelOf) (thread : ℕ) → is_own_call q asking.op ≡ true → (b : Bool)
+        → is_blocked q (clients d) thread ≡ b → is_blocked q (clients d) thread ≡ false
+    by q thread own false e = e
+    by q thread own true e =
         let parts = own_call q asking.op own in
         let named : q.owner ≡ Some (record { client = client_id c; thread = t }) =
         ap (λ (o : ChannelOf). o.owner) parts.1
@@ -187,7 +188,7 @@ caller-unblocked c t clients moment mode want asking caller sent asked d other i
         let one : d ≡ c = one-client d c other caller
         (sym id ∙ ap (λ (o : ThreadOfClient). o.client) same) in
         let turn : thread ≡ t = ap (λ (o : ThreadOfClient). o.thread) same in
-        sym e ∙ (λ i. is_blocked q (clients (one i)) (turn i))
+        (λ i. is_blocked q (clients (one i)) (turn i))
         ∙ unblocked q (clients c) t asking asked
 
 -- an operator's call isn't any owner's

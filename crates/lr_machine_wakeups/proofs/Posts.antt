@@ -1,4 +1,5 @@
--- Only the message of a fair lock names an owner: all who wait for another object share its channel.
+-- Only the message of a fair lock names an owner: all who wait for another object share its
+-- channel.
 use Rattle.std.proofs.Common.{◌≡◌, ℕ, ◌+◌, ◌-◌, ◌==◌, nat_lt, nat_le, min, List, [], ◌∷◌, length, Bool, true, false, Option, Some, None, if◌then◌else◌, refl, ◌⊎◌, inl, inr}
 use Rattle.lr_limits.specs.Limits.{hold_limit, token_limit, member_limit, amount_limit}
 use Rattle.lr_names.specs.Channel.{is_fair}
@@ -390,7 +391,8 @@ wait-fair moment wait owner true held queue = by (place_of owner queue)
 hold-fair : (moment lease : ℕ) (owner : ThreadOfClient) (held : Option Hold)
     → IsFairPost (take_hold moment owner lease held).post
 hold-fair moment lease owner None = tt
-hold-fair moment lease owner (Some hold) = by (same_owner hold.owner owner) (hold.count == hold_limit)
+hold-fair moment lease owner (Some hold) =
+    by (same_owner hold.owner owner) (hold.count == hold_limit)
   where
     by : (own full : Bool)
         → IsFairPost

@@ -93,7 +93,8 @@ kept-later n world kept = record {
 kept-row : (n : ℕ) (world : World) (c : ℕ) (row : Option Client)
     → ((after : Client) → row ≡ Some after
     → Facts (suc n) (present_of world) after (connection_of world c))
-    → ClientAsked world.moment (client_id c) row → Kept n world → Kept (suc n) (next_row world c row)
+    → ClientAsked world.moment (client_id c) row → Kept n world
+    → Kept (suc n) (next_row world c row)
 kept-row n world c None facts asked kept = kept-later n world kept
 kept-row n world c (Some client) facts asked kept = record {
   facts = λ d within. by d within (c == d) refl;
@@ -491,7 +492,7 @@ kept-hearing : (n : ℕ) (world : World) (c : ℕ) (client : Client) (now : Conn
     → ((channel : ChannelOf) (told : Bool)
     → told_by_act channel (state_of world) entry.moment entry.act told ≡ told)
     → Kept n world → Kept n (with_entry entry (next_row world c (Some client)))
-kept-hearing n world c client now entry is_client facts asked board same quiet alike silent kept = record {
+kept-hearing n world c client now entry is facts asked board same quiet stay mute kept = record {
   facts = λ d within.
       facts-moved n (present_of world)
       (present_of (with_entry entry (next_row world c (Some client))))
@@ -509,10 +510,10 @@ kept-hearing n world c client now entry is_client facts asked board same quiet a
             (quiet channel (peak_after channel.kind channel.name first_state world.entries 0));
         left = λ channel.
             left-entry entry (next_row world c (Some client)) channel
-            ∙ alike channel (left_of world channel);
+            ∙ stay channel (left_of world channel);
         told = λ channel.
             told-entry entry (next_row world c (Some client)) channel
-            ∙ silent channel (told_of world channel);
+            ∙ mute channel (told_of world channel);
       })
       (ap (λ (s : State). s.board (subscription_connection d))
       (state-entry entry (next_row world c (Some client)))
@@ -668,7 +669,8 @@ kept-event n world event few within order kept = by event within
         kept-step n world c (begin_row t mode want)
         (facts_begin (suc n) (present_of world) (world.clients c) (connection_of world c)
         (later c inside.0) t inside.1.1 mode want)
-        (asked-begin world.moment (client_id c) (world.clients c).session (kept.asked c) t mode want) kept
+        (asked-begin world.moment (client_id c) (world.clients c).session (kept.asked c) t
+        mode want) kept
     by (Ask c t) inside =
         kept-step n world c (ask_row t world.moment)
         (facts_ask (suc n) (present_of world) (world.clients c) (connection_of world c)
@@ -687,7 +689,8 @@ kept-event n world event few within order kept = by event within
         kept-step n world c (check_row t world.moment)
         (facts_check (suc n) (present_of world) (world.clients c) (connection_of world c)
         (later c inside.0) t inside.1.1 world.moment)
-        (asked-check world.moment (client_id c) (world.clients c).session (kept.asked c) t world.moment) kept
+        (asked-check world.moment (client_id c) (world.clients c).session (kept.asked c) t
+        world.moment) kept
     by (Wake c t) inside =
         kept-step n world c (wake_row t)
         (facts_wake (suc n) (present_of world) (world.clients c) (connection_of world c)
@@ -697,7 +700,8 @@ kept-event n world event few within order kept = by event within
         kept-step n world c (fire_row t world.moment)
         (facts_fire (suc n) (present_of world) (world.clients c) (connection_of world c)
         (later c inside.0) t inside.1.1 world.moment)
-        (asked-fire world.moment (client_id c) (world.clients c).session (kept.asked c) t world.moment) kept
+        (asked-fire world.moment (client_id c) (world.clients c).session (kept.asked c) t
+        world.moment) kept
     by (Quit c t) inside =
         kept-step n world c (quit_row t)
         (facts_quit (suc n) (present_of world) (world.clients c) (connection_of world c)

@@ -18,9 +18,9 @@ use Rattle.lr_machine.specs.Within.{IsClient, IsWithin}
 use Rattle.lr_machine.specs.World.{World, state_of, connection_of, first_world, world_after}
 use Rattle.lr_machine_wakeups.specs.WorldFacts.{peak_of, present_of}
 
--- A thread that sleeps for a fair lock: its place in the queue goes stale later than it asks again by
--- itself, and is there until then; a message that was sent to it since it asked has not been lost;
--- and what is told to stand is never nothing, and comes before the place goes stale.
+-- A thread that sleeps for a fair lock: its place in the queue goes stale later than it asks again
+-- by itself, and is there until then; a message that was sent to it since it asked has not been
+-- lost; and what is told to stand is never nothing, and comes before the place goes stale.
 pub record IsInQueue (world : World) (c thread : ℕ) (waiter : Waiter) (stand : Stand)
     : Type 0 where
   pub sleeps : SleepsInQueue (present_of world) (world.clients c) (connection_of world c) thread
@@ -29,10 +29,10 @@ pub record IsInQueue (world : World) (c thread : ℕ) (waiter : Waiter) (stand :
       → stale_on (channel_in (world.clients c).session thread waiter) (state_of world).objects
       ≡ Some sleeps.place.stale
 
--- What is told to stand for a thread that sleeps is never nothing. On a channel where a message wakes
--- one of many, a timer isn't later than the peak. Where a message wakes all, it isn't later than the
--- peak of a read-write lock, or than now where permits are waited for. Who sleeps for a fair lock is
--- in its queue.
+-- What is told to stand for a thread that sleeps is never nothing. On a channel where a message
+-- wakes one of many, a timer isn't later than the peak. Where a message wakes all, it isn't later
+-- than the peak of a read-write lock, or than now where permits are waited for. Who sleeps for a
+-- fair lock is in its queue.
 pub record NoWakeupIsLost (world : World) : Type 0 where
   pub stands : (c thread : ℕ) (waiter : Waiter) (stand : Stand) → IsClient c
       → thread ≤ thread_limit → waiter_in (world.clients c) thread ≡ Some waiter

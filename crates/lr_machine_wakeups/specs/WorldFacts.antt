@@ -81,8 +81,8 @@ pub record AreAsked (moment : ℕ) (id : List ℕ) (session : Session) : Type 0 
   pub each : (thread : ℕ)
       → AskedWith moment (record { client = id; thread = thread }) (session.waiters thread)
 
--- A place that the last call of a channel's owner left is in the queue as long as it isn't stale: no
--- other takes it.
+-- A place that the last call of a channel's owner left is in the queue as long as it isn't stale:
+-- no other takes it.
 abbrev pub PlaceStays : World → ChannelOf → Type 0
 PlaceStays world channel =
     (owner : ThreadOfClient) (stale : ℕ) → is_fair channel.kind ≡ true

@@ -16,13 +16,16 @@ pub fn live_deadlines_stay_below_the_peak()
 /// After each event of every schedule within the limits, and before the first, all facts are so of
 /// each client and of the connection by which it subscribes. Among them is that who was refused a
 /// permit, and whom no message has reached since, is due no later than any lease that is live ends,
-/// or by now.
+/// or by now; and that who was refused a fair lock has a place in its queue for longer than it
+/// sleeps.
 pub fn the_facts_hold_throughout()
     ensures { ThroughoutEverySchedule HaveFacts }
 {}
 
 /// And what is told to stand for a thread that sleeps is never nothing, and no timer that is too
-/// late: later than the peak of a lock, or later than now where permits are waited for.
+/// late: later than the peak of a lock, later than now where permits are waited for, or too late
+/// for its place where it sleeps for a fair lock. That place is in the queue until it goes stale,
+/// and a message that was sent to the thread since it asked is on its way or has left a permit.
 pub fn no_wakeup_is_lost_in_any_schedule()
     ensures { ThroughoutEverySchedule (λ n world. NoWakeupIsLost world) }
 {}

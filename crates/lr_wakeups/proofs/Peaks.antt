@@ -327,7 +327,8 @@ by_call : (kind : Kind) → wakes_one_of_many kind ≡ true → (name : List ℕ
 by_call kind one name state moment op peak ends =
     by (tells kind name (post_of state.objects moment op)) kind one ends
   where
-    by : (told : Bool) (k : Kind) → wakes_one_of_many k ≡ true → EndsBy k name moment state.objects peak
+    by : (told : Bool) (k : Kind) → wakes_one_of_many k ≡ true
+        → EndsBy k name moment state.objects peak
         → EndsBy k name moment (objects_after state.objects moment op)
         (if told then live_until (objects_after state.objects moment op) k name moment
         else if is_about k name op

@@ -1,6 +1,6 @@
 -- Those who were refused a fair lock, at each change.
-use Rattle.std.proofs.Common.{◌≡◌, ℕ, ◌<◌, ◌≤◌, List, Bool, true, false, Option, Some, None, refl, ap, sym, ◌∙◌, subst, ◌&&◌, ◌⊎◌, inl, inr}
-use Rattle.std.proofs.lemmas.Bool.{and_from, false≢true, cases_eq}
+use Rattle.std.proofs.Common.{◌≡◌, ℕ, ◌<◌, ◌≤◌, List, Bool, true, false, Option, Some, None, is_some, refl, ap, sym, ◌∙◌, subst, ◌&&◌, ◌⊎◌, inl, inr}
+use Rattle.std.proofs.lemmas.Bool.{and_parts, and_from, false≢true, cases_eq}
 use Rattle.lr_limits.specs.Limits.{thread_limit}
 use Rattle.lr_names.specs.Channel.{ChannelOf, is_fair}
 use Rattle.lr_names.specs.Owner.{ThreadOfClient}
@@ -15,9 +15,9 @@ use Rattle.lr_waiting.specs.declared.waiter.Waiter.{Waiter}
 use Rattle.lr_model.specs.Board.{same_channel, Connection}
 use Rattle.lr_model.proofs.SameChannel.{same_self}
 use Rattle.lr_waiting.specs.Client.{Client, waiter_in}
-use Rattle.lr_waiting.specs.Session.{at_stage, channel_for, channel_in}
+use Rattle.lr_waiting.specs.Session.{at_stage, channel_for, channel_in, leaving_function}
 use Rattle.lr_waiting.specs.Stand.{in_flight, due_at}
-use Rattle.lr_wakeups.specs.Joining.{gives_up_at}
+use Rattle.lr_wakeups.specs.Joining.{is_queue_leave, gives_up_at}
 use Rattle.lr_wakeups.specs.Queued.{HasPlace, QueuedWith, QueuedIn, IsLeftQueued, QueueGoesOn, NobodyIsBlocked}
 use Rattle.lr_wakeups.specs.Reached.{Present}
 use Rattle.lr_wakeups.specs.Registered.{registered_with, is_registered}
@@ -104,7 +104,10 @@ module _ (present : Present) (id : List ℕ) (thread : ℕ) where
         absurd (false≢true (sym (left.untold inside fair (refused blocked)) ∙ now));
     ends = λ gives.
         ap (λ s. is_blocked_at s (Some answer) waiter.want.function) asked
-        ∙ left.ends (sym (ap (λ s. gives_up_at s waiter.want.function) asked) ∙ gives);
+        ∙ left.ends
+        (and_parts (is_some (leaving_function waiter.want.function))
+        (is_queue_leave asking.op.call)
+        (sym (ap (λ s. gives_up_at s waiter.want.function) asked) ∙ gives)).1;
   }
     where
       refused : is_blocked_at waiter.stage (Some answer) waiter.want.function ≡ true
@@ -144,7 +147,7 @@ pub queued_changes : (present : Present) (thread : ℕ) (found : Option Waiter)
     → (after.session.latches.entries q).permits ≡ (before.session.latches.entries q).permits)
     → ((t : ℕ) → t ≤ thread_limit → QueuedIn present before connection t)
     → (t : ℕ) → t ≤ thread_limit → QueuedIn present after connection t
-queued_changes present thread found reply before after changes connection here permits queued t within =
+queued_changes present thread found reply before after changes connection here stay were t within =
     by (cases_eq t thread)
   where
     -- it is written as of the client afterwards
@@ -177,7 +180,7 @@ queued_changes present thread found reply before after changes connection here p
         by_test : (b : Bool) → is_registered q before thread ≡ b
             → Tells connection.outbox (after.session.latches.entries q) q
         by_test true e = absurd (apart (one_waits q before thread t fair e there))
-        by_test false e = inr (subst (λ k. 0 < k) (sym (permits q e)) some)
+        by_test false e = inr (subst (λ k. 0 < k) (sym (stay q e)) some)
 
     by : (t ≡ thread) ⊎ (t ≡ thread → ⊥) → QueuedIn present after connection t
     by (inl same) =
@@ -187,7 +190,7 @@ queued_changes present thread found reply before after changes connection here p
         written t (before.replies t) (waiter_in before t) (changes.answers t apart)
         (changes.waiters t apart)
         (queued_there present before after.session.latches.entries connection.outbox
-        connection.outbox t (others apart) (waiter_in before t) refl (queued t within))
+        connection.outbox t (others apart) (waiter_in before t) refl (were t within))
 
 -- who was refused is blocked on its own channel
 pub blocked_there : (client : Client) (t : ℕ) (waiter : Waiter)
@@ -206,61 +209,53 @@ blocked_there client t waiter was inside blocked =
     blocked
 
 -- The server does something, or time passes.
-pub queued_goes_on : (present then_ : Present) (told acts : ChannelOf → Bool)
-    → QueueGoesOn told acts present then_ → (client : Client) → NobodyIsBlocked acts client
-    → (t : ℕ) → t ≤ thread_limit → (outbox after : List Push)
-    → ((q : ChannelOf) → is_blocked q client t ≡ true → told q ≡ true
+module _ (present then_ : Present) (told acts : ChannelOf → Bool)
+    (goes : QueueGoesOn told acts present then_) (client : Client)
+    (nobody : NobodyIsBlocked acts client) (t : ℕ) (within : t ≤ thread_limit)
+    (outbox after : List Push)
+    (message : (q : ChannelOf) → is_blocked q client t ≡ true → told q ≡ true
     → in_flight q after ≡ true)
-    → ((q : ChannelOf) → in_flight q outbox ≡ true → in_flight q after ≡ true)
-    → (found : Option Waiter) → waiter_in client t ≡ found
-    → QueuedWith present client.session.client client.session.latches.entries outbox t
-    (client.replies t) found
-    → QueuedWith then_ client.session.client client.session.latches.entries after t
-    (client.replies t) found
-queued_goes_on present then_ told acts goes client nobody t within outbox after message flies None is queued = tt
-queued_goes_on present then_ told acts goes client nobody t within outbox after message flies (Some waiter) is queued = record {
-  place = λ inside fair blocked.
-      subst (λ l. HasPlace l (due_at waiter.stage (client.replies t)))
-      (sym (goes.places q (others (acts q) refl inside blocked)))
-      (queued.place inside fair blocked);
-  told = λ inside fair blocked now. by (told q) refl inside fair blocked now;
-  ends = queued.ends;
-}
-  where
-    q : ChannelOf
-    q = channel_in client.session t waiter
+    (flies : (q : ChannelOf) → in_flight q outbox ≡ true → in_flight q after ≡ true) where
+  -- who was refused made no call
+  made_none : (q : ChannelOf) → is_blocked q client t ≡ true → acts q ≡ false
+  made_none q blocked = by (acts q) refl
+    where
+      by : (b : Bool) → acts q ≡ b → acts q ≡ false
+      by false e = e
+      by true e = absurd (false≢true (sym (nobody q t e within) ∙ blocked))
 
-    others : (b : Bool) → acts (channel_in client.session t waiter) ≡ b
-        → waiter.registered ≡ true
-        → is_blocked_at waiter.stage (client.replies t) waiter.want.function ≡ true
-        → acts (channel_in client.session t waiter) ≡ false
-    others false e inside blocked = e
-    others true e inside blocked =
-        absurd
-        (false≢true
-        (sym (nobody (channel_in client.session t waiter) t e within)
-        ∙ blocked_there client t waiter is inside blocked))
+  -- what told it tells it
+  tells_on : (q : ChannelOf) (entry : LatchEntry) → is_blocked q client t ≡ true
+      → then_.told q ≡ true → (present.told q ≡ true → Tells outbox entry q)
+      → Tells after entry q
+  tells_on q entry blocked now tells = by (told q) refl
+    where
+      carry : Tells outbox entry q → Tells after entry q
+      carry (inl was) = inl (flies q was)
+      carry (inr some) = inr some
 
-    by : (b : Bool) → told (channel_in client.session t waiter) ≡ b
-        → waiter.registered ≡ true → is_fair (channel_in client.session t waiter).kind ≡ true
-        → is_blocked_at waiter.stage (client.replies t) waiter.want.function ≡ true
-        → then_.told (channel_in client.session t waiter) ≡ true
-        → Tells after (client.session.latches.entries (channel_in client.session t waiter))
-        (channel_in client.session t waiter)
-    by true e inside fair blocked now =
-        inl
-        (message (channel_in client.session t waiter)
-        (blocked_there client t waiter is inside blocked) e)
-    by false e inside fair blocked now =
-        carry
-        (queued.told inside fair blocked
-        (goes.untold (channel_in client.session t waiter) e now))
-      where
-        carry : Tells outbox
-            (client.session.latches.entries (channel_in client.session t waiter))
-            (channel_in client.session t waiter)
-            → Tells after
-            (client.session.latches.entries (channel_in client.session t waiter))
-            (channel_in client.session t waiter)
-        carry (inl was) = inl (flies (channel_in client.session t waiter) was)
-        carry (inr some) = inr some
+      by : (b : Bool) → told q ≡ b → Tells after entry q
+      by true e = inl (message q blocked e)
+      by false e = carry (tells (goes.untold q e now))
+
+  pub queued_goes_on : (found : Option Waiter) → waiter_in client t ≡ found
+      → QueuedWith present client.session.client client.session.latches.entries outbox t
+      (client.replies t) found
+      → QueuedWith then_ client.session.client client.session.latches.entries after t
+      (client.replies t) found
+  queued_goes_on None is queued = tt
+  queued_goes_on (Some waiter) is queued = record {
+    place = λ inside fair blocked.
+        subst (λ l. HasPlace l (due_at waiter.stage (client.replies t)))
+        (sym
+        (goes.places (channel_in client.session t waiter)
+        (made_none (channel_in client.session t waiter)
+        (blocked_there client t waiter is inside blocked))))
+        (queued.place inside fair blocked);
+    told = λ inside fair blocked now.
+        tells_on (channel_in client.session t waiter)
+        (client.session.latches.entries (channel_in client.session t waiter))
+        (blocked_there client t waiter is inside blocked) now
+        (queued.told inside fair blocked);
+    ends = queued.ends;
+  }

@@ -26,7 +26,7 @@ use Rattle.lr_model.specs.Board.{Connection}
 use Rattle.lr_waiting.specs.Latch.{is_subscribed, is_due, next_count, take_permit_at, register_in, register_at, leave_at, checked_in, woken_in}
 use Rattle.lr_waiting.specs.Session.{Session, owner_in, with_waiter, with_stage, with_ticket, with_latches, without_waiter, of_waiter, begin_at, begin_row, new_waiter, ask_at, ask_row, asking_for, leaving_want, leaving_function, may_wait, waits_for, channel_in, entry_for, key_in, is_joining_at, due_after, watch_begun, watch_ended, watched_by, refused, registered, take_at, take_row, checked, check_at, check_row, woken, wake_at, wake_row, fire_at, fire_row, given_up, quit, quit_at, quit_row}
 use Rattle.lr_waiting.specs.Client.{Client, waiter_in, client_row, with_reply, asked_at, asked_by, asked_of, take_with, take_reply}
-use Rattle.lr_wakeups.specs.Joining.{FitsStage, is_queue_leave, gives_up_at}
+use Rattle.lr_wakeups.specs.Joining.{FitsStage, gives_up_at}
 use Rattle.lr_wakeups.specs.Queued.{IsLeftQueued}
 use Rattle.lr_wakeups.specs.Answered.{is_asked_at}
 use Rattle.lr_wakeups.specs.Standing.{IsInTime}
@@ -159,7 +159,8 @@ module _ (n : ℕ) (present : Present) (client : Client) (connection : Connectio
       session (With session) (λ waiter was f. by waiter was waiter.stage refl session f) e)
     where
       asks : (waiter : Waiter) → waiter_in client thread ≡ Some waiter → (want : Want)
-          → (is_queue_leave (asking_for thread moment want waiter client.session).op.call ≡ false
+          → (gives_up_at (Asked (asking_for thread moment want waiter client.session))
+          waiter.want.function ≡ false
           → gives_up_at waiter.stage waiter.want.function ≡ false)
           → is_joining_at waiter.stage ≡ false → is_asked_at waiter.stage ≡ false
           → With (with_stage thread waiter
@@ -172,9 +173,11 @@ module _ (n : ℕ) (present : Present) (client : Client) (connection : Connectio
       -- what leaves asks to leave
       leaves : (turn : ℕ) (want : Want) (waiter : Waiter) (function : Function)
           → want.function ≡ function
-          → is_queue_leave
+          → gives_up_at
+          (Asked
           (asking_for thread moment (leaving_want want (leaving_function function)) waiter
-          client.session).op.call ≡ false
+          client.session))
+          function ≡ false
           → gives_up_at (Leaving turn) function ≡ false
       leaves turn want waiter (functions.Fair f) is asked = absurd (false≢true (sym asked))
       leaves turn want waiter _ is asked = refl

@@ -47,8 +47,10 @@ latch_facts n present client connection facts =
 outside_free : (function : Function) (stage : Stage) (registered : Bool)
     → FitsStage stage registered → registered ≡ false
     → is_blocked_at stage None function ≡ false
-outside_free function (Refused refusal) registered fits outside = absurd (false≢true (sym outside ∙ fits))
-outside_free function (Asleep refusal) registered fits outside = absurd (false≢true (sym outside ∙ fits))
+outside_free function (Refused refusal) registered fits outside =
+    absurd (false≢true (sym outside ∙ fits))
+outside_free function (Asleep refusal) registered fits outside =
+    absurd (false≢true (sym outside ∙ fits))
 outside_free function (Asked asking) registered fits outside = refl
 outside_free function _ registered fits outside = refl
 
@@ -138,28 +140,28 @@ module _ (n : ℕ) (present : Present) (client : Client) (connection : Connectio
         → ((q : ChannelOf) → is_registered q client thread ≡ false
         → (after.session.latches.entries q).permits ≡ (client.session.latches.entries q).permits)
         → Facts n present after connection
-    restaged stage reply after restages latched registered heard covered numbers here queued permits = record {
+    restaged stage reply after to latched registered heard covered number here place stay = record {
       accounted = latched.accounted;
       matched = latched.matched;
       bounded = latched.bounded;
       counted = λ q.
-          count_restaged thread reply client after within waiter was stage restages.changes q
+          count_restaged thread reply client after within waiter was stage to.changes q
           (registered q) (facts.counted q);
       placed = place_restaged thread reply client after within facts.placed waiter was stage
-          restages.changes restages.fits restages.joins heard;
+          to.changes to.fits to.joins heard;
       answered = answered_changes thread (Some (at_stage stage waiter)) reply client after
-          restages.changes restages.reply_fits facts.answered;
+          to.changes to.reply_fits facts.answered;
       covered = covered;
-      few = λ q. subst (λ k. k ≤ n) (sym (numbers q)) (facts.few q);
+      few = λ q. subst (λ k. k ≤ n) (sym (number q)) (facts.few q);
       reached = reached_changes present thread (Some (at_stage stage waiter)) reply client after
-          restages.changes connection
+          to.changes connection
           (reached_moved present client.session.client thread client.session.latches.entries
           after.session.latches.entries connection.outbox connection.outbox reply
           (at_stage stage waiter)
-          (λ inside. numbers (channel_in client.session thread waiter)) (λ quiet. quiet) here)
-          (λ t apart under q there. numbers q) facts.reached;
+          (λ inside. number (channel_in client.session thread waiter)) (λ quiet. quiet) here)
+          (λ t apart under q there. number q) facts.reached;
       queued = queued_changes present thread (Some (at_stage stage waiter)) reply client after
-          restages.changes connection queued permits facts.queued;
+          to.changes connection place stay facts.queued;
     }
 
     -- what is so of it before
@@ -369,9 +371,10 @@ module _ (n : ℕ) (present : Present) (client : Client) (connection : Connectio
           changes = changes;
           fits = subst (λ s. FitsStage s waiter.registered) refused
               (placed_was thread None client after within facts.placed waiter was).fits;
-          joins = λ stays.
-              (ap (λ s. gives_up_at s waiter.want.function) refused,
-              sym (ap is_joining_at refused));
+          joins = λ stays. (
+            ap (λ s. gives_up_at s waiter.want.function) refused,
+            sym (ap is_joining_at refused),
+          );
           reply_fits = λ asked. refl;
         })
         (latch_facts n present client connection facts) (λ q. refl) (λ q. refl)
@@ -546,11 +549,12 @@ module _ (n : ℕ) (present : Present) (client : Client) (connection : Connectio
         (record {
           changes = changes;
           fits = inside;
-          joins = λ stays.
-              (refused_stays present client.session.client thread
-              client.session.latches.entries connection.outbox (client.replies thread) waiter
-              was_queued was_blocked,
-              sym (ap is_joining_at asked));
+          joins = λ stays. (
+            refused_stays present client.session.client thread
+                client.session.latches.entries connection.outbox (client.replies thread) waiter
+                was_queued was_blocked,
+            sym (ap is_joining_at asked),
+          );
           reply_fits = λ not_asked. refl;
         })
         (latch_facts n present client connection facts) (λ q. refl) (λ q. refl)

@@ -1,7 +1,7 @@
 -- Joining exactly while unsubscribed: a thread that is registered waits until its client hears the
 -- channel exactly while it doesn't hear it. One that gives its place in a queue up may have joined
 -- when it did.
-use Rattle.std.specs.Prelude.{◌≡◌, ℕ, Bool, true, false, not, Option, Some, None, is_some}
+use Rattle.std.specs.Prelude.{◌≡◌, ℕ, Bool, true, false, not, ◌&&◌, Option, Some, None, is_some}
 use Rattle.lr_objects.specs.declared.fair.FairCall.{FairCall}
 use Rattle.lr_objects.specs.declared.fair.FairCall.TheVariants.{Leave}
 use Rattle.lr_objects.specs.declared.kinds.Call.{Call}
@@ -30,10 +30,12 @@ abbrev pub is_queue_leave : Call → Bool
 is_queue_leave (Fair call) = is_fair_leave call
 is_queue_leave _ = false
 
--- whether a request for a function gives its place up: it is to send that call, or has sent it
+-- Whether a request for a function gives its place up: it is to send that call, or has sent it.
+-- Only one for a fair lock does.
 abbrev pub gives_up_at : Stage → Function → Bool
 gives_up_at (Leaving turn) function = is_some (leaving_function function)
-gives_up_at (Asked asking) function = is_queue_leave asking.op.call
+gives_up_at (Asked asking) function =
+    is_some (leaving_function function) && is_queue_leave asking.op.call
 gives_up_at _ function = false
 
 pub record IsPlaced (session : Session) (thread : ℕ) (waiter : Waiter) : Type 0 where

@@ -86,5 +86,6 @@ GoingOnKeepsFacts =
     (n : ℕ) (present then_ : Present) (client : Client) (connection : Connection)
     (acts : ChannelOf → Bool)
     → GoesOn (λ channel. false) present then_
-    → QueueGoesOn (λ channel. false) acts present then_ → NobodyIsBlocked acts client → Facts n present client connection
+    → QueueGoesOn (λ channel. false) acts present then_ → NobodyIsBlocked acts client
+    → Facts n present client connection
     → Facts n then_ client connection

@@ -1,5 +1,6 @@
--- What is so of those who were refused a fair lock: each has a place in the queue for longer than it
--- sleeps, and a message that was sent to it since it asked has not been lost. This project's own.
+-- What is so of those who were refused a fair lock: each has a place in the queue for longer than
+-- it sleeps, and a message that was sent to it since it asked has not been lost. This project's
+-- own.
 use Rattle.std.specs.Prelude.{◌≡◌, ◌⊎◌, ℕ, ◌+◌, ◌<◌, ◌≤◌, List, Bool, true, false, Option, Some, None}
 use Rattle.lr_limits.specs.Limits.{thread_limit}
 use Rattle.lr_names.specs.Channel.{ChannelOf, is_fair}
@@ -22,8 +23,8 @@ use Rattle.lr_wakeups.specs.Joining.{is_queue_leave, gives_up_at}
 use Rattle.lr_wakeups.specs.Reached.{Present}
 use Rattle.lr_wakeups.specs.Standing.{is_blocked_at, is_blocked}
 
--- A place that an owner's last call left, and the moment at which the owner asks again by itself: the
--- place goes stale later than that, by as long as the next in the queue waits for it.
+-- A place that an owner's last call left, and the moment at which the owner asks again by itself:
+-- the place goes stale later than that, by as long as the next in the queue waits for it.
 pub record HasPlace (left due : Option ℕ) : Type 0 where
   pub stale : ℕ
   pub moment : ℕ

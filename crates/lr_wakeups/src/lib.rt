@@ -14,7 +14,9 @@ pub use server_laws::{
     a_message_keeps_the_facts, a_reply_keeps_the_facts, an_executed_order_keeps_the_facts,
     an_item_keeps_the_facts, going_on_keeps_the_facts,
 };
-pub use stand_laws::{no_broadcast_is_lost, no_turn_is_lost, no_wakeup_is_lost};
+pub use stand_laws::{
+    no_broadcast_is_lost, no_turn_is_lost, no_wakeup_is_lost, one_thread_waits_for_its_turn,
+};
 pub use start_laws::{
     a_client_that_hears_has_told_all, a_cut_keeps_the_facts, more_orders_keep_the_facts,
     the_facts_at_start,

@@ -1,8 +1,8 @@
 ghost use Rattle.lr_wakeups.specs.Keeps.{OfEachThread, ReplyKeepsFacts, PushKeepsFacts, OrderKeepsFacts, PostKeepsFacts, GoingOnKeepsFacts};
 
-/// The reply to a call keeps all facts, where one that refuses it on a channel that wakes one of many
-/// gives a timer that isn't later than the peak, on a channel that wakes all leaves it waiting, and
-/// on the channel of a fair lock leaves it a place.
+/// The reply to a call keeps all facts, where one that refuses it on a channel that wakes one of
+/// many gives a timer that isn't later than the peak, on a channel that wakes all leaves it
+/// waiting, and on the channel of a fair lock leaves it a place.
 pub fn a_reply_keeps_the_facts()
     ensures { OfEachThread ReplyKeepsFacts }
 {}
