@@ -4,8 +4,11 @@ ghost use Rattle.lr_clients.specs.Rows.{client_alone};
 
 use crate::ClientTable;
 use lr_machine::{Event, Found, Shown, ThreadId};
-use lr_names::{Channel, Kind, Name, Push, Wakes};
-use lr_objects::{Function, Lease, LockFunction, Mode, ReadWriteFunction, Remaining, Reply, Want};
+use lr_names::{Channel, Kind, Name, Owner, Push, Wakes};
+use lr_objects::{
+    Call, FairCall, FairFunction, Function, Lease, LockFunction, Mode, ReadWriteFunction,
+    Remaining, Reply, Want,
+};
 use lr_waiting::{Asking, Phase, Stand};
 use std::alloc::{AllocError, Global};
 use std::test::Fail;
@@ -43,6 +46,26 @@ fn begin_read(name: &Name) -> Event
         mode: Mode::Long,
         want: Want {
             function: Function::ReadWrite(ReadWriteFunction::Read),
+            name: *name,
+            lease: Lease::For(1_000),
+            number: 0,
+            id: Uuid::nil(),
+        },
+    }
+}
+
+// And one for a fair lock.
+fn begin_fair(name: &Name) -> Event
+    ensures alone { client_alone result ≡ Some 1 }
+    ensures within { IsWithin result }
+    ensures begins { MayBegin result }
+{
+    Event::Begin {
+        client: 1,
+        thread: 1,
+        mode: Mode::Long,
+        want: Want {
+            function: Function::Fair(FairFunction::Try),
             name: *name,
             lease: Lease::For(1_000),
             number: 0,
@@ -161,10 +184,14 @@ fn hears(clients: &mut ClientTable, item: &Push) -> bool {
     !matches!(clients.push(1, item), Shown::No(_))
 }
 
-// Whether a thread that wants to read sleeps once it was refused while its client hears the channel.
-fn falls_asleep(clients: &mut ClientTable, channel: Channel, name: &Name) -> bool {
+// Whether a thread that begins so sleeps once it was refused while its client hears the channel.
+fn falls_asleep(clients: &mut ClientTable, channel: Channel, begin: &Event) -> bool
+    requires alone { client_alone begin.now ≡ Some 1 }
+    requires within { IsWithin begin.now }
+    requires begins { MayBegin begin.now }
+{
     let (client, thread) = (1, 1);
-    clients.step(1, 90, &begin_read(name)).is_ok()
+    clients.step(1, 90, begin).is_ok()
         && is_refused(clients)
         && hears(clients, &Push::Subscribed(channel, 1))
         && is_refused(clients)
@@ -186,12 +213,68 @@ fn stands(clients: &ClientTable, held: bool, in_flight: bool, stand: Stand) -> b
 fn stands_in_order(alloc: Global, channel: Channel, name: &Name) -> Result<bool, AllocError> {
     let mut clients = ClientTable::new(alloc)?;
     Ok(
-        falls_asleep(&mut clients, channel, name)
+        falls_asleep(&mut clients, channel, &begin_read(name))
             && stands(&clients, true, true, Stand::Held)
             && stands(&clients, false, true, Stand::Message)
             && stands(&clients, false, false, Stand::Timer(500))
             && hears(&mut clients, &Push::Message(channel, Wakes::All))
             && stands(&clients, false, false, Stand::Broadcast),
+    )
+}
+
+// Whether this stands for the thread, where it sleeps on this channel.
+fn stands_apart(clients: &ClientTable, channel: &Channel, in_flight: bool, stand: Stand) -> bool {
+    match clients.asleep(1, 1) {
+        Some(sleeper) => {
+            sleeper.channel == *channel && clients.stand_of_one(1, channel, in_flight) == stand
+        }
+        None => false,
+    }
+}
+
+// Whether a thread that gives up is there still, and sends the call that gives its place up.
+fn leaves(clients: &mut ClientTable, owner: Owner) -> bool {
+    let (client, thread) = (1, 1);
+    let quit = Event::Quit { client, thread };
+    let call = Call::Fair(FairCall::Leave { owner });
+    matches!(clients.step(1, 600, &quit), Ok(Shown::Leaving))
+        && clients.asleep(1, 1).is_none()
+        && finds(clients, &quit, Phase::Leaving)
+        && clients.step(1, 600, &Event::Ask { client, thread }).is_ok()
+        && matches!(asked(clients), Some(asking) if asking.op.call == call)
+}
+
+// Whether its request ends once it has left the queue, and its client leaves the channel.
+fn has_left(clients: &mut ClientTable, channel: Channel) -> bool {
+    let (client, thread) = (1, 1);
+    let take = Event::Take { client, thread };
+    answer(clients, Reply::Left);
+    clients.take_order(1);
+    matches!(clients.step(1, 600, &take), Ok(Shown::Done(Reply::Left)))
+        && matches!(
+            clients.first_order(1),
+            Some(order) if !order.subscribe && order.channel == channel
+        )
+        && finds(clients, &take, Phase::Idle)
+}
+
+// Whether a thread waits for its turn on a channel of its own, and gives its place up.
+fn waits_in_queue(alloc: Global, name: &Name) -> Result<bool, AllocError> {
+    let mut clients = ClientTable::new(alloc)?;
+    let owner = Owner::new(Uuid::from_u128(1), 1);
+    let other = Channel::fair(name, &Owner::new(Uuid::from_u128(1), 2));
+    let own = Channel::fair(name, &owner);
+    Ok(
+        falls_asleep(&mut clients, own, &begin_fair(name))
+            && stands_apart(&clients, &own, true, Stand::Message)
+            && stands_apart(&clients, &own, false, Stand::Timer(500))
+            && clients.stand_of_one(1, &other, false) == Stand::Nobody
+            && hears(&mut clients, &Push::Message(other, Wakes::One))
+            && stands_apart(&clients, &own, false, Stand::Timer(500))
+            && hears(&mut clients, &Push::Message(own, Wakes::One))
+            && stands_apart(&clients, &own, false, Stand::Permit)
+            && leaves(&mut clients, owner)
+            && has_left(&mut clients, own),
     )
 }
 
@@ -211,5 +294,6 @@ fn clients_step(rt: HostRuntime) -> Result<(), Fail> {
     assert!(rt; threads_ask(rt.alloc(), &name)?);
     assert!(rt; clients_are_cut_off(rt.alloc(), &name)?);
     assert!(rt; stands_in_order(rt.alloc(), Channel::of(Kind::Rw, &name), &name)?);
+    assert!(rt; waits_in_queue(rt.alloc(), &name)?);
     Ok(())
 }

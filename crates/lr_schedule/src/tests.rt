@@ -5,10 +5,11 @@ use lr_limits::{LINE_BYTES, MOST_EVENTS};
 use lr_machine::{
     Clients, Event, Found, Ordered, Reached, Replied, ScheduleLine, Shown, Standings,
 };
-use lr_names::{Channel, Due, Kind, Name};
+use lr_names::{Channel, Due, Kind, Name, Owner};
 use lr_objects::{
-    Arguments, CountdownFunction, FencedFunction, Function, Integer, Lease, LockFunction, Mode,
-    PermitFunction, ReadWriteFunction, Remaining, Reply, SemaphoreFunction, Want,
+    Arguments, CountdownFunction, FairFunction, FencedFunction, Function, Integer, Lease,
+    LockFunction, Mode, PermitFunction, ReadWriteFunction, Remaining, Reply, SemaphoreFunction,
+    Want,
 };
 use lr_text::Text;
 use lr_waiting::{Order, Phase, Stand, Standing};
@@ -18,7 +19,7 @@ use uuid::Uuid;
 
 const ID: &str = "00000000-0000-0000-0000-0000000000ff";
 
-const BAD_LINES: [&str; 28] = [
+const BAD_LINES: [&str; 33] = [
     "",
     "ask 1",
     "ask 1 1 ",
@@ -32,12 +33,17 @@ const BAD_LINES: [&str; 28] = [
     "begin 1 1 05 lock_try a 30000",
     "begin 1 1 Long lock_try a 30000",
     "begin 1 1 long lock_unlock a 5",
+    "begin 1 1 long fair_unlock a 5",
     "begin 1 1 long rw_unlock_read a 5",
     "begin 1 1 long sem_release a 1",
     "begin 1 1 5 permit_count a",
     "begin 1 1 5 latch_down a",
     "begin 1 1 long latch_count a 1",
     "begin 1 1 once lock_renew a 30000",
+    "begin 1 1 once fair_leave a",
+    "begin 1 1 once fair_leave a 30000",
+    "begin 1 1 once fair_renew a 30000",
+    "begin 1 1 once fair_try a",
     "begin 1 1 once lock_try a watch",
     "begin 1 1 once lock_try a:b 30000",
     "force",
@@ -61,7 +67,7 @@ const LINES_OUTSIDE: [&str; 9] = [
     "cut 18446744073709551615",
 ];
 
-const REPLIES: [(Reply, &str); 14] = [
+const REPLIES: [(Reply, &str); 15] = [
     (Reply::Granted, "4 done granted\n"),
     (Reply::Kept, "4 done kept\n"),
     (Reply::Freed, "4 done freed\n"),
@@ -76,6 +82,7 @@ const REPLIES: [(Reply, &str); 14] = [
     (Reply::Unknown, "4 done unknown\n"),
     (Reply::TooMany, "4 done too-many\n"),
     (Reply::TokensSpent, "4 done tokens-spent\n"),
+    (Reply::Left, "4 done left\n"),
 ];
 
 const FOUND: [(Found, &str); 12] = [
@@ -106,15 +113,18 @@ const STANDS: [(Stand, &str); 7] = [
     (Stand::Nobody, "6 64 256 nobody\n"),
 ];
 
+// Words of functions that are none, or with which no request begins.
+const NO_FUNCTIONS: [&str; 4] = ["lock_tyr", "lock_renew", "fair_leave", "fair_renew"];
+
+// What is said of each of them.
+const FUNCTIONS: &str = "functions are lock_try, lock_unlock, fair_try, fair_unlock, rw_read, \
+                         rw_write, rw_unlock_read, rw_unlock_write, fenced_try, fenced_unlock, \
+                         fenced_token, sem_set, sem_try, sem_release, sem_count, permit_set, \
+                         permit_try, permit_release, permit_count, latch_set, latch_down, \
+                         latch_count";
+
 // Lines, and what is said of each before it is shown.
-const REASONS: [(&str, &str); 13] = [
-    (
-        "begin 1 1 once lock_tyr a 5",
-        "\"lock_tyr\" is no function; functions are lock_try, lock_unlock, rw_read, rw_write, \
-         rw_unlock_read, rw_unlock_write, fenced_try, fenced_unlock, fenced_token, sem_set, \
-         sem_try, sem_release, sem_count, permit_set, permit_try, permit_release, permit_count, \
-         latch_set, latch_down, latch_count (word 5 of ",
-    ),
+const REASONS: [(&str, &str); 14] = [
     (
         "begin 1 1 once lock_try a! 5",
         "\"a!\" is no name; names are 1 to 64 letters, digits, _, . or - (word 6 of ",
@@ -128,6 +138,15 @@ const REASONS: [(&str, &str); 13] = [
         "begin 1 1 0 lock_try a 5",
         "\"0\" is no mode; the mode is once, long, or milliseconds, 1 to 86400000000, \
          with no leading zeros (word 4 of ",
+    ),
+    (
+        "begin 1 1 5 fair_unlock a 5",
+        "\"5\" is no mode; with fair_unlock the mode is once (word 4 of ",
+    ),
+    (
+        "begin 1 1 once fair_try a",
+        "there is no lease; leases are milliseconds, 0 to 18446744073709551615, \
+         with no leading zeros (word 7 of ",
     ),
     (
         "begin 1 1 long sem_release a! 1",
@@ -200,6 +219,22 @@ fn requests_are_read(want: &Want) -> bool {
         && begins("begin 64 256 1 lock_try a 30000", Mode::For(1), want)
         && begins("begin 64 256 86400000000 lock_try a 30000", longest, want)
         && begins("begin 64 256 long fenced_try a 30000", Mode::Long, &fenced)
+}
+
+// Requests for a fair lock: one that may wait, and one that doesn't.
+fn fair_requests_are_read(want: &Want) -> bool {
+    let fair = Want {
+        function: Function::Fair(FairFunction::Try),
+        ..*want
+    };
+    let unlock = Want {
+        function: Function::Fair(FairFunction::Unlock),
+        ..*want
+    };
+    begins("begin 64 256 once fair_try a 30000", Mode::Once, &fair)
+        && begins("begin 64 256 5 fair_try a 30000", Mode::For(5), &fair)
+        && begins("begin 64 256 long fair_try a 30000", Mode::Long, &fair)
+        && begins("begin 64 256 once fair_unlock a 30000", Mode::Once, &unlock)
 }
 
 // Requests that may wait for an object that isn't one owner's.
@@ -325,6 +360,7 @@ fn lines_are_read(rt: HostRuntime) -> Result<(), Fail> {
     let name = Name::parse(b"a")?;
     let tried = want(name);
     let threads = requests_are_read(&tried)
+        && fair_requests_are_read(&tried)
         && requests_for_all_are_read(&tried)
         && calls_are_read(64, 256)
         && waits_are_read(64, 256);
@@ -438,6 +474,27 @@ fn orders_are_written(out: &mut Text, channel: Channel) -> Result<bool, AllocErr
     )
 }
 
+// The channel of an owner that waits for a fair lock.
+fn fair_channels_are_written(
+    alloc: Global,
+    out: &mut Text,
+    name: &Name,
+) -> Result<bool, AllocError> {
+    let channel = Channel::fair(name, &Owner::new(Uuid::from_u128(255), 256));
+    let first = ordered(true, channel, 1, None);
+    let message = Shown::Delivered(channel, 1);
+    let shown = freed(channel, Clients::new(alloc));
+    let text = format!(in alloc; "ch:fair:a:{ID}:256")?;
+    let order = format!(in alloc; "1 subscribe {text} 1\n")?;
+    let delivered = format!(in alloc; "2 message {text} 1\n")?;
+    let posted = format!(in alloc; "3 freed post {text} 1\n")?;
+    Ok(
+        writes(out, 1, &first, order.as_str())?
+            && writes(out, 2, &message, delivered.as_str())?
+            && writes(out, 3, &shown, posted.as_str())?,
+    )
+}
+
 // A freed lock, whose message cut these clients off.
 fn freed(channel: Channel, cut: Clients) -> Shown {
     Shown::Replied(Replied {
@@ -539,12 +596,15 @@ fn ends_are_written(out: &mut Text) -> Result<bool, AllocError> {
 
 #[test]
 fn lines_are_written(rt: HostRuntime) -> Result<(), Fail> {
-    let channel = Channel::of(Kind::Mutex, &Name::parse(b"a")?);
+    let name = Name::parse(b"a")?;
+    let channel = Channel::of(Kind::Mutex, &name);
     let mut out = Text::new(rt.alloc());
     let steps = calls_are_written(&mut out)? && waits_are_written(&mut out)?;
     let sleeps = sleeps_are_written(&mut out)? && findings_are_written(&mut out)?;
     let replies = replies_are_written(&mut out)? && numbers_are_written(&mut out)?;
-    let news = pushes_are_written(&mut out, channel)? && orders_are_written(&mut out, channel)?;
+    let news = pushes_are_written(&mut out, channel)?
+        && orders_are_written(&mut out, channel)?
+        && fair_channels_are_written(rt.alloc(), &mut out, &name)?;
     assert!(rt; steps && sleeps && replies && news && ends_are_written(&mut out)?);
     Ok(())
 }
@@ -577,6 +637,19 @@ fn reasons_are_told(alloc: Global) -> Result<bool, AllocError> {
     Ok(true)
 }
 
+// Where no request begins with a function, it is told with which one does.
+fn functions_are_told(alloc: Global) -> Result<bool, AllocError> {
+    for word in NO_FUNCTIONS {
+        let line = format!(in alloc; "begin 1 1 once {word} a 5")?;
+        let reason = format!(in alloc; "\"{word}\" is no function; {FUNCTIONS} (word 5 of ")?;
+        let shown = format!(in alloc; "\"{line}\"")?;
+        if !is_explained(alloc, line.as_bytes(), reason.as_str(), shown.as_str())? {
+            return Ok(false);
+        }
+    }
+    Ok(true)
+}
+
 // A line too many, and a line that is too long, of which the first 80 bytes are shown.
 fn limits_are_told(alloc: Global) -> Result<bool, AllocError> {
     let front = "\"\\x00\\x1f\\x7f\\xff ~xxxxxxxxxxxxxxxxxxxxxxxxxxxxxxxxxxxxx\
@@ -593,6 +666,6 @@ fn limits_are_told(alloc: Global) -> Result<bool, AllocError> {
 #[test]
 fn lines_are_explained(rt: HostRuntime) -> Result<(), Fail> {
     let alloc = rt.alloc();
-    assert!(rt; reasons_are_told(alloc)? && limits_are_told(alloc)?);
+    assert!(rt; reasons_are_told(alloc)? && functions_are_told(alloc)? && limits_are_told(alloc)?);
     Ok(())
 }
