@@ -8,6 +8,7 @@ use std::test::Fail;
 
 // Threads 1 and 2 of the client whose number is 1.
 const OWNER: &[u8] = b"00000000-0000-0000-0000-000000000001:1";
+
 const OTHER: &[u8] = b"00000000-0000-0000-0000-000000000001:2";
 
 // The request for a lock.

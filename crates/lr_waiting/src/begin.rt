@@ -2,8 +2,8 @@ ghost use Rattle.std.specs.Prelude.{◌≡◌};
 ghost use Rattle.lr_waiting.specs.Begin.{waits};
 
 use lr_objects::{
-    CountdownFunction, FairFunction, FencedFunction, Function, LockFunction, PermitFunction, ReadWriteFunction,
-    SemaphoreFunction,
+    CountdownFunction, FairFunction, FencedFunction, Function, LockFunction, PermitFunction,
+    ReadWriteFunction, SemaphoreFunction,
 };
 
 /// Whether a request for the function may wait.
