@@ -9,3 +9,9 @@ pub returns-in-Race-clause-usage : goal.returns-in-Race-clause-usage
 returns-in-Race-clause-usage g c =
     let is = (c.in-Race.ensures.race c.in-Race.threads c.in-Race.calls).0 refl in
     (λ e. absurd (c.race.ensures.not_usage e), λ none. absurd (none.3 _ _ is))
+
+pub returns-in-Race-clause-ends : goal.returns-in-Race-clause-ends
+returns-in-Race-clause-ends g c = λ play.
+    let is = (c.in-Race.ensures.race c.in-Race.threads c.in-Race.calls).0 refl in
+    let text = is.text in
+    absurd cc
