@@ -8,8 +8,6 @@ mod items;
 mod replies;
 mod sleeper;
 mod stands;
-#[cfg(test)]
-mod tests;
 mod threads;
 
 pub use clients::ClientTable;

@@ -6,6 +6,3 @@ mod request;
 
 pub use channels::Channels;
 pub use request::Request;
-
-#[cfg(test)]
-mod tests;

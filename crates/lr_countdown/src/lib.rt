@@ -8,8 +8,6 @@ mod call;
 mod functions;
 mod laws;
 mod look;
-#[cfg(test)]
-mod tests;
 
 pub use call::run;
 pub use laws::{countdowns_stand_later, no_keys_stand_for_no_countdowns};

@@ -7,8 +7,6 @@
 mod number;
 mod room;
 mod steps;
-#[cfg(test)]
-mod tests;
 
 pub use number::{count_at, number_at};
 pub use room::make_room;

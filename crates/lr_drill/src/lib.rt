@@ -6,7 +6,5 @@ mod calls;
 mod passes;
 mod race;
 mod summary;
-#[cfg(test)]
-mod tests;
 
 pub use race::race_top;

@@ -12,8 +12,6 @@ mod laws;
 mod leases;
 mod look;
 mod permit_keys;
-#[cfg(test)]
-mod tests;
 
 pub use call::run;
 pub use laws::{no_keys_stand_for_no_permits, permits_stand_later};

@@ -13,8 +13,6 @@ mod lock_keys;
 mod places;
 mod stale;
 mod steps;
-#[cfg(test)]
-mod tests;
 mod turn;
 
 pub use call::run;

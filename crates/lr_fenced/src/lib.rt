@@ -8,8 +8,6 @@ mod call;
 mod functions;
 mod laws;
 mod take;
-#[cfg(test)]
-mod tests;
 mod token;
 
 pub use call::run;

@@ -22,6 +22,3 @@ const TABLE_SEGMENTS: usize = (MOST_ENTRIES as usize + MOST_CONNECTIONS as usize
 
 /// More segments than any memory holds. With it the number of entries stays below 2 ^ 63.
 const MOST_SEGMENTS: usize = 1 << 52;
-
-#[cfg(test)]
-mod tests;

@@ -22,6 +22,3 @@ pub use key_space::hashes::Fields;
 pub use lr_sorted::Members;
 pub use lr_text::Items;
 pub use value_kind::ValueKind;
-
-#[cfg(test)]
-mod tests;

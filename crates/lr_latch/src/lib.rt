@@ -5,7 +5,5 @@
 mod entry;
 mod latches;
 mod orders;
-#[cfg(test)]
-mod tests;
 
 pub use latches::Latches;

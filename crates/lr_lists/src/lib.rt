@@ -9,6 +9,3 @@ mod places;
 
 pub use item_list::ItemList;
 pub use places::{before_start, place_in, up_to_stop};
-
-#[cfg(test)]
-mod tests;

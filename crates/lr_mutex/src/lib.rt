@@ -6,8 +6,6 @@
 mod call;
 mod functions;
 mod laws;
-#[cfg(test)]
-mod tests;
 
 pub use call::run;
 pub use laws::{mutexes_stand_later, no_keys_stand_for_no_mutexes};

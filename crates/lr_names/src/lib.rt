@@ -8,8 +8,6 @@ mod name;
 mod owner;
 mod part;
 mod post;
-#[cfg(test)]
-mod tests;
 
 pub use channel::{Channel, ChannelFault};
 pub use id::{check_id, id_brief, read_id};

@@ -14,8 +14,6 @@ mod plain_source;
 mod sink;
 mod source;
 mod status;
-#[cfg(test)]
-mod tests;
 mod window;
 
 pub use input_source::InputSource;

@@ -18,6 +18,3 @@ pub use conns::Conns;
 pub use fault::BoardFault;
 pub use posted::Posted;
 pub use pushes::Pushes;
-
-#[cfg(test)]
-mod tests;

@@ -13,8 +13,6 @@ mod lock_keys;
 mod look;
 mod member;
 mod steps;
-#[cfg(test)]
-mod tests;
 
 pub use call::run;
 pub use laws::{no_keys_stand_for_no_read_write_locks, read_write_locks_stand_later};

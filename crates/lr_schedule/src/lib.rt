@@ -14,8 +14,6 @@ mod reader;
 mod shown;
 mod spelled;
 mod tail;
-#[cfg(test)]
-mod tests;
 mod verb;
 mod write;
 

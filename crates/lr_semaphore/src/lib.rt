@@ -8,8 +8,6 @@ mod call;
 mod functions;
 mod laws;
 mod look;
-#[cfg(test)]
-mod tests;
 
 pub use call::run;
 pub use laws::{no_keys_stand_for_no_semaphores, semaphores_stand_later};

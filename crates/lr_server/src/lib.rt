@@ -16,6 +16,3 @@ pub use lr_commands::{Channels, Request};
 pub use lr_history::History;
 pub use lr_pubsub::{Conns, Pushes};
 pub use state::ServerState;
-
-#[cfg(test)]
-mod tests;

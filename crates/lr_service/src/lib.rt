@@ -16,6 +16,3 @@ pub use lr_server::{Answer, Answered, Channels, History, Pushes, Request, Server
 pub use lr_turnstile::{Busy, Pass};
 pub use served::Served;
 pub use service::Service;
-
-#[cfg(test)]
-mod tests;

@@ -3,16 +3,12 @@
 #![tactic(auto)]
 
 mod asks;
-#[cfg(test)]
-mod fair_tests;
 mod fault;
 mod joining;
 mod pushes;
 mod requests;
 mod stages;
 mod state;
-#[cfg(test)]
-mod tests;
 mod threads;
 mod waiters;
 mod waits;

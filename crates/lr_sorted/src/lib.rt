@@ -16,6 +16,3 @@ mod tournament;
 
 pub use listed::Members;
 pub use sorted_set::SortedSet;
-
-#[cfg(test)]
-mod tests;

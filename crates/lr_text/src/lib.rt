@@ -4,8 +4,6 @@
 mod items;
 mod number;
 mod short_text;
-#[cfg(test)]
-mod tests;
 mod text;
 mod words;
 

@@ -22,6 +22,3 @@ pub use kept::Kept;
 pub use lr_model::Entry;
 pub use pass::Pass;
 pub use view::View;
-
-#[cfg(test)]
-mod tests;

@@ -8,8 +8,6 @@ mod items;
 mod numbers;
 mod orders;
 mod stands;
-#[cfg(test)]
-mod tests;
 mod world;
 
 pub use world::World;

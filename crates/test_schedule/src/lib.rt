@@ -1,0 +1,5 @@
+//! Tests of the lines of a schedule.
+#![tactic(auto)]
+
+#[cfg(test)]
+mod schedule;

@@ -1,0 +1,9 @@
+//! Tests of the server, of its requests and of its board.
+#![tactic(auto)]
+
+#[cfg(test)]
+mod commands;
+#[cfg(test)]
+mod pubsub;
+#[cfg(test)]
+mod server;
