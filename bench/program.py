@@ -14,12 +14,17 @@ def must_be_built():
         sys.exit("there is no %s: run ./lockd --version first" % PROGRAM)
 
 
-def processor_seconds(path):
-    """What one run of a schedule takes, in seconds of the processor, which other programs disturb least."""
-    with open(path, "rb") as schedule:
-        run = subprocess.Popen([PROGRAM, "play"], stdin=schedule, stdout=subprocess.DEVNULL)
-        _, status, usage = os.wait4(run.pid, 0)
+def seconds_of(words, source=None):
+    """What one run of the program takes, in seconds of the processor, which other programs disturb least."""
+    run = subprocess.Popen([PROGRAM] + words, stdin=source, stdout=subprocess.DEVNULL)
+    _, status, usage = os.wait4(run.pid, 0)
     if status != 0:
-        sys.exit("lockd play ended with the wait status %d" % status)
+        sys.exit("lockd %s ended with the wait status %d" % (" ".join(words), status))
     run.returncode = 0
     return usage.ru_utime + usage.ru_stime
+
+
+def processor_seconds(path):
+    """What one run of a schedule takes."""
+    with open(path, "rb") as schedule:
+        return seconds_of(["play"], schedule)

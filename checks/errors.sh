@@ -35,7 +35,14 @@ all() {
     refused 'begin 65 1 once lock_try a 5'
     refused 'begin 1 1 later lock_try a 5'
     refused 'begin 1 1 long lock_unlock a 5'
+    refused 'begin 1 1 once lock_try a wach'
+    refused 'begin 1 1 once permit_try p 00000000-0000-0000-0000-000000000001 watch'
+    refused 'rask 1 1 latch a'
+    refused 'rexec 1 1 lock'
+    refused 'rtake 1 257 lock a'
     refused 'wake 1'
+    refused 'rask 1 1 mutex a'
+    refused 'begin 1 1 once permit_try a 00000000-0000-0000-0000-0000000000ff watch'
     refused 'push 65'
     refused 'show 1'
     refused "$(long_line)"
@@ -56,6 +63,14 @@ all() {
     shows race 1 10001
     shows race 2 3 text
     shows race 2 3
+    shows drill
+    shows drill 7
+    shows drill 7 1000001
+    shows drill 07 1
+    shows drill x 1
+    shows drill 18446744073709551616 1
+    shows drill 7 0 1
+    shows drill 7 0
     shows "$(printf 'pl\377y')"
     shows play <&-
 }

@@ -1,3 +1,4 @@
 pub mod Places
 pub mod ThreadLists
 pub mod Steps
+pub mod RenewalReplies

@@ -5,10 +5,12 @@ ghost use Rattle.lr_waiting.specs.Client.{asked_at, asked_of, cut_client, client
 ghost use Rattle.lr_waiting.specs.Latch.{first_order_of};
 ghost use Rattle.lr_waiting.specs.Session.{order_taken};
 ghost use Rattle.lr_machine.specs.declared.shown.Shown.TheVariants as shows;
+ghost use Rattle.lr_machine.specs.Clients.{client_id};
 ghost use Rattle.lr_machine.specs.World.{first_client, unless_cut};
 ghost use Rattle.lr_clients.specs.Client.{client_of};
 ghost use Rattle.lr_clients.specs.Rows.{found_in};
 
+use crate::renewed::Renewed;
 use crate::replies::Replies;
 use lr_limits::WATCHDOG_LEASE;
 use lr_machine::{Found, Shown};
@@ -19,12 +21,13 @@ use std::alloc::{AllocError, Global};
 use std::marker::Model;
 use uuid::Uuid;
 
-/// The core of a client, and the replies that the server has given and its threads haven't taken
-/// yet.
+/// The core of a client, and the replies that the server has given and that weren't taken yet: to
+/// the calls of its threads, and to its renewals.
 #[derive(Drop)]
 pub(crate) struct ClientState {
     pub(crate) session: SessionState,
     pub(crate) replies: Replies,
+    pub(crate) renewed: Renewed,
 }
 
 impl Model for ClientState {
@@ -32,7 +35,11 @@ impl Model for ClientState {
 
     ghost Value = { ClientValue };
 
-    ghost view = { λ c. record { session = c.session; replies = c.replies } };
+    ghost view = { λ c. record {
+      session = c.session;
+      replies = c.replies;
+      renewed = c.renewed;
+    } };
 }
 
 impl ClientState {
@@ -40,10 +47,10 @@ impl ClientState {
     pub(crate) fn new(alloc: Global, client: u32) -> Result<Self, AllocError>
         ensures { IfOk result (λ c. client_of c ≡ first_client client) }
     {
-        let id = Uuid::from_u128(u128::from(client));
         Ok(ClientState {
-            session: SessionState::new(alloc, id, WATCHDOG_LEASE),
+            session: SessionState::new(alloc, client_id(client), WATCHDOG_LEASE),
             replies: Replies::new(alloc)?,
+            renewed: Renewed::new(alloc),
         })
     }
 
@@ -121,7 +128,15 @@ impl ClientState {
     {
         self.session.cut();
         self.replies.clear();
+        self.renewed.clear();
     }
+}
+
+/// The id of a client, whose 128-bit number is the client's.
+pub(crate) fn client_id(client: u32) -> Uuid
+    ensures { result ≡ client_id client }
+{
+    Uuid::from_u128(u128::from(client))
 }
 
 // A call that was sent is answered once its reply is there.

@@ -1,18 +1,18 @@
-ghost use Rattle.std.specs.Prelude.{◌≡◌, ◌≤◌, ◌==◌, false, Some, Ok, IfOk, IfSome, OnOk, OnErr};
+ghost use Rattle.std.specs.Prelude.{◌≡◌, ◌≤◌, ◌<◌, ◌==◌, false, Some, Ok, IfOk, IfSome, OnOk, OnErr};
 ghost use Rattle.lr_limits.specs.Limits.{last_moment, thread_limit};
 ghost use Rattle.lr_names.specs.Owner.{IsThread};
 ghost use Rattle.lr_objects.specs.Function.{arguments_of};
 ghost use Rattle.lr_objects.specs.Want.{HasAmount};
 ghost use Rattle.lr_model.specs.Table.{put};
-ghost use Rattle.lr_waiting.specs.Client.{asked_of, cut_client, client_row, with_reply};
+ghost use Rattle.lr_waiting.specs.Client.{asked_of, cut_client, client_row, with_renewed, with_reply};
 ghost use Rattle.lr_waiting.specs.Latch.{first_order_of};
 ghost use Rattle.lr_waiting.specs.Session.{channel_for, order_taken, pushed};
 ghost use Rattle.lr_machine.specs.declared.shown.Shown.TheVariants as shows;
 ghost use Rattle.lr_machine.specs.Shown.{shown_item};
 ghost use Rattle.lr_machine.specs.Within.{IsClient, IsWithin, MayBegin};
 ghost use Rattle.lr_machine.specs.World.{clients_after, first_client, unless_cut};
-ghost use Rattle.lr_clients.specs.Client.{clients_of, room_at};
-ghost use Rattle.lr_clients.specs.Rows.{client_alone, found_in, row_by, shown_by};
+ghost use Rattle.lr_clients.specs.Client.{clients_of, renewed_room_at, room_at};
+ghost use Rattle.lr_clients.specs.Rows.{client_alone, found_in, renewal_in, row_by, shown_by};
 ghost use Rattle.lr_clients.specs.Stands.{sleeper_of, stand_where_all, stand_where_one};
 
 use crate::client::ClientState;
@@ -20,8 +20,8 @@ use crate::sleeper::Sleeper;
 use lr_limits::MOST_CLIENTS;
 use lr_machine::{Event, Shown, ThreadId};
 use lr_names::{Channel, Push};
-use lr_objects::Reply;
-use lr_waiting::{Asking, Order, Stand};
+use lr_objects::{Op, Reply};
+use lr_waiting::{Asking, Order, Stand, WatchKey};
 use std::alloc::{AllocError, Global};
 use std::marker::Model;
 
@@ -55,8 +55,8 @@ impl ClientTable {
         Ok(ClientTable { rows })
     }
 
-    /// Makes a step of a thread: what is shown and the clients afterwards are those of the step
-    /// table. It looks at the thread's own client alone. An error changes nothing.
+    /// Makes a step of a thread, or one of a renewal: what is shown and the clients afterwards are
+    /// those of the step table. It looks at that client alone. An error changes nothing.
     pub fn step(&mut self, client: u32, moment: u64, event: &Event) -> Result<Shown, AllocError>
         requires alone { client_alone event.now ≡ Some client }
         requires within { IsWithin event.now }
@@ -107,6 +107,34 @@ impl ClientTable {
             (with_reply id.thread (Some reply) (clients id.client)) }
     {
         self.rows[(id.client - 1) as usize].answer(id.thread, reply);
+    }
+
+    /// The call by which the server is to renew a hold of a client: `None` where the client hasn't
+    /// asked for it, and where the server has executed it.
+    pub fn renewal(&self, client: u32, key: &WatchKey) -> Option<Op>
+        requires { IsClient client }
+        ensures { result ≡ renewal_in (clients_of self.now client) key.now }
+    {
+        self.rows[(client - 1) as usize].renewal(key)
+    }
+
+    /// Takes the memory that the reply to a renewal of a client needs. An error changes nothing.
+    pub fn reserve_renewed(&mut self, client: u32) -> Result<(), AllocError>
+        requires { IsClient client }
+        ensures ok { OnOk result (0 < renewed_room_at self.new client) }
+        ensures same { clients_of self.new ≡ clients_of self.old }
+    {
+        self.rows[(client - 1) as usize].reserve_renewed()
+    }
+
+    /// From now on a reply waits for the renewal of a hold of a client, which has the memory for it.
+    pub fn answer_renewal(&mut self, client: u32, key: &WatchKey, reply: Reply)
+        requires client { IsClient client }
+        requires room { 0 < renewed_room_at self.old client }
+        ensures { let clients = clients_of self.old in clients_of self.new
+            ≡ put ◌==◌ clients client (with_renewed key.now (Some reply) (clients client)) }
+    {
+        self.rows[(client - 1) as usize].answer_renewal(key, reply);
     }
 
     /// The order of a client that waits longest for the server.

@@ -1,4 +1,4 @@
-//! The steps of a client's threads, which nobody else notices.
+//! The steps of a client and its threads that nobody else notices.
 ghost use Rattle.std.specs.Prelude.{◌≡◌, ◌≤◌, IsSome, IfOk, OnOk, OnErr};
 ghost use Rattle.lr_limits.specs.Limits.{last_moment};
 ghost use Rattle.lr_names.specs.Owner.{IsThread};
@@ -13,6 +13,7 @@ ghost use Rattle.lr_clients.specs.Client.{client_of};
 ghost use Rattle.lr_clients.specs.Rows.{client_alone, found_in, row_by, row_or, shown_by};
 
 use crate::client::ClientState;
+use crate::renewals::hold_key;
 use lr_machine::{Event, Shown};
 use lr_objects::{Mode, Want};
 use lr_session::SessionFault;
@@ -20,8 +21,8 @@ use lr_waiting::{CheckedStep, GaveUp, Taken, WokenStep};
 use std::alloc::AllocError;
 
 impl ClientState {
-    /// Makes a step of a thread: what is shown and the client afterwards are those of the step
-    /// table. An error changes nothing.
+    /// Makes a step of a thread, or one of a renewal: what is shown and the client afterwards are
+    /// those of the step table. An error changes nothing.
     pub(crate) fn step(&mut self, moment: u64, event: &Event) -> Result<Shown, AllocError>
         requires alone { IsSome (client_alone event.now) }
         requires within { IsWithin event.now }
@@ -46,6 +47,18 @@ impl ClientState {
             Event::Wake { thread, .. } => Ok(self.wake(thread)),
             Event::Fire { thread, .. } => Ok(self.fire(thread, moment)),
             Event::Quit { thread, .. } => Ok(self.quit(thread)),
+            Event::RenewAsk {
+                client,
+                thread,
+                kind,
+                name,
+            } => Ok(self.renew_ask(&hold_key(client, thread, kind, name), moment)),
+            Event::RenewTake {
+                client,
+                thread,
+                kind,
+                name,
+            } => Ok(self.renew_take(&hold_key(client, thread, kind, name))),
             _ => unreachable!(),
         }
     }

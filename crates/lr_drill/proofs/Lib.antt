@@ -1,1 +1,4 @@
-mod Racing
+pub mod Drilling
+pub mod Racing
+pub mod Drawn
+pub mod Sleepers

@@ -1,6 +1,6 @@
 -- What is known of the calls of a race's threads, and of the history that they made.
-use Rattle.std.proofs.Common.{◌≡◌, ◌≢◌, ℕ, zero, suc, ◌+◌, ◌^◌, ◌<◌, ◌≤◌, ◌==◌, cond, Bool, true, false, if◌then◌else◌, List, [], ◌∷◌, ◌++◌, length, Option, Some, None, refl, sym, ap, ◌∙◌, subst, arith, get_or, length-append, eqb-true}
-use Rattle.std.specs.Prelude.{Result, Ok, max, min}
+use Rattle.std.proofs.Common.{◌≡◌, ◌≢◌, ℕ, ◌+◌, ◌^◌, ◌<◌, ◌≤◌, ◌==◌, cond, Bool, true, false, if◌then◌else◌, List, [], ◌∷◌, ◌++◌, length, Option, Some, None, refl, sym, ap, ◌∙◌, subst, arith, get_or, length-append}
+use Rattle.std.specs.Prelude.{Result, Ok, min}
 use Rattle.std.specs.Bool.{OnTrue}
 use Rattle.std.specs.List.{All}
 use Rattle.std.proofs.Math.Nat.{le-max_right, min-eq_left}
@@ -19,7 +19,7 @@ use Rattle.lr_server.specs.declared.answered.Answer.{Answer}
 use Rattle.lr_server.specs.declared.answered.Answer.TheVariants.{Reply, Queued, OnlySubscribed}
 use Rattle.lr_server.specs.declared.answered.Answered.{Answered}
 use Rattle.lr_server.specs.declared.fault.StepFault.{StepFault}
-use Rattle.lr_server.specs.Server.{ServerValue, state_of, entry_of, entry_made, is_only_subscribed, connection_of, told_by, result_in}
+use Rattle.lr_server.specs.Server.{ServerValue, state_of, entry_of, is_only_subscribed, connection_of, told_by, result_in}
 use Rattle.lr_turnstile.specs.declared.view.View.{View}
 use Rattle.lr_turnstile.specs.Views.{entries_by, HasOwn}
 use Rattle.lr_service.specs.Served.{server_at}

@@ -3,7 +3,6 @@
 use Rattle.std.specs.Prelude.{◌≡◌, ℕ, zero, suc, ◌+◌, ◌/◌, ◌%◌, ◌==◌, ◌≤◌, List, [], ◌∷◌, length, codes, if◌then◌else◌, All, ⊤}
 use Rattle.std.specs.Int.{w128, to_be_bytes}
 use Rattle.lr_names.specs.Owner.{ThreadOfClient}
-use Rattle.lr_objects.specs.declared.kinds.Call.{Call}
 use Rattle.lr_objects.specs.declared.kinds.Call.TheVariants.{Lock}
 use Rattle.lr_objects.specs.declared.lock.LockCall.{LockCall}
 use Rattle.lr_objects.specs.declared.lock.LockCall.TheVariants.{Try, Unlock}

@@ -8,10 +8,12 @@ use Rattle.lr_model.specs.Board.{has_room}
 use Rattle.lr_model.specs.History.{Deed}
 use Rattle.lr_waiting.specs.declared.latch.Order.{Order}
 use Rattle.lr_waiting.specs.declared.waiter.Asking.{Asking}
+use Rattle.lr_waiting.specs.declared.watch.Renewal.{Renewal}
+use Rattle.lr_waiting.specs.declared.watch.WatchKey.{WatchKey}
 use Rattle.lr_machine.specs.declared.event.Event.{Event}
 use Rattle.lr_machine.specs.declared.event.Event.TheVariants as events
 use Rattle.lr_machine.specs.Clients.{command_connection, subscription_connection, caller_of, client_caller, operator, operator_connection}
-use Rattle.lr_machine.specs.World.{World, state_of, connection_of, force_of, asking_of, order_for, item_for, act_of, dropped_at, next}
+use Rattle.lr_machine.specs.World.{World, state_of, connection_of, force_of, asking_of, hold_key, renewing_in, renewal_for, order_for, item_for, act_of, dropped_at, next}
 
 -- a client that is cut off closes its two connections, that for its calls first
 abbrev pub deeds_of_cut : List ℕ → List Deed
@@ -31,6 +33,12 @@ abbrev pub deeds_of_exec : World → ℕ → ℕ → Option Asking → List Deed
 deeds_of_exec world c t (Some asking) =
     deeds_of_call world (caller_of c t) (command_connection c) asking.op
 deeds_of_exec world c t None = []
+
+-- a renewal, which the client makes for its thread
+abbrev pub deeds_of_renewal : World → ℕ → WatchKey → Option Renewal → List Deed
+deeds_of_renewal world c key (Some renewal) =
+    deeds_of_call world (client_caller c) (command_connection c) (renewal_for world c key)
+deeds_of_renewal world c key None = []
 
 -- an order, or the end of a client whose connection takes no more
 abbrev pub deeds_of_order : World → ℕ → Option Order → List Deed
@@ -53,6 +61,9 @@ abbrev pub deeds_of_event : World → Event → List Deed
 deeds_of_event world (events.Exec c t) = deeds_of_exec world c t (asking_of world c t)
 deeds_of_event world (events.Sub c) = deeds_of_order world c (order_for world c)
 deeds_of_event world (events.Push c) = deeds_of_item c (item_for world c)
+deeds_of_event world (events.RenewExec c t kind name) =
+    let key = hold_key c t kind name in
+    deeds_of_renewal world c key (renewing_in world c key)
 deeds_of_event world (events.Force name) =
     deeds_of_call world operator operator_connection (force_of name)
 deeds_of_event world (events.Cut c) =

@@ -12,8 +12,23 @@ use Rattle.lr_objects.specs.declared.want.Lease.{Lease}
 use Rattle.lr_objects.specs.declared.want.Lease.TheVariants as leases
 use Rattle.lr_objects.specs.declared.want.Want.{Want}
 use Rattle.lr_machine.specs.declared.event.Event.{Event}
-use Rattle.lr_machine.specs.declared.event.Event.TheVariants.{Begin, Ask, Exec, Take, Check, Wake, Fire, Quit, Sub, Push, Tick, Force, Cut, Show}
+use Rattle.lr_machine.specs.declared.event.Event.TheVariants.{Begin, Ask, Exec, Take, Check, Wake, Fire, Quit, Sub, Push, Tick, RenewAsk, RenewExec, RenewTake, Force, Cut, Show}
+use Rattle.lr_waiting.specs.declared.watch.WatchKind.{WatchKind}
+use Rattle.lr_waiting.specs.declared.watch.WatchKind.TheVariants as watched
 use Rattle.lr_waiting.specs.Begin.{CanBegin}
+
+-- the kind of a hold that is watched
+abbrev pub watch_word : WatchKind → List ℕ
+watch_word watched.Lock = codes "lock"
+watch_word watched.Fair = codes "fair"
+watch_word watched.Fenced = codes "fenced"
+watch_word watched.Read = codes "read"
+watch_word watched.Write = codes "write"
+
+-- the hold of a client's thread
+abbrev pub hold_words : ℕ → ℕ → WatchKind → List ℕ → List (List ℕ)
+hold_words client thread kind name =
+    decimal client ∷ decimal thread ∷ watch_word kind ∷ name ∷ []
 
 -- the words of an event, in order
 abbrev pub event_words : Event → List (List ℕ)
@@ -29,6 +44,12 @@ event_words (Quit client thread) = codes "quit" ∷ decimal client ∷ decimal t
 event_words (Sub client) = codes "sub" ∷ decimal client ∷ []
 event_words (Push client) = codes "push" ∷ decimal client ∷ []
 event_words (Tick moment) = codes "tick" ∷ decimal moment ∷ []
+event_words (RenewAsk client thread kind name) =
+    codes "rask" ∷ hold_words client thread kind name
+event_words (RenewExec client thread kind name) =
+    codes "rexec" ∷ hold_words client thread kind name
+event_words (RenewTake client thread kind name) =
+    codes "rtake" ∷ hold_words client thread kind name
 event_words (Force name) = codes "force" ∷ name ∷ []
 event_words (Cut client) = codes "cut" ∷ decimal client ∷ []
 event_words Show = codes "show" ∷ []
@@ -45,9 +66,14 @@ IsNumber n = n < 2 ^ 64
 abbrev pub IsMillis : Lease → Type 0
 IsMillis lease = (millis : ℕ) × (lease ≡ leases.For millis) × IsNumber millis
 
+-- or the watchdog's
+abbrev pub IsLease : Lease → Type 0
+IsLease leases.Watch = Unit {0}
+IsLease (leases.For millis) = IsNumber millis
+
 -- what the function isn't given is absent from its want
 abbrev pub LeaseFits : Arguments → Lease → Type 0
-LeaseFits arguments.Lease lease = IsMillis lease
+LeaseFits arguments.Lease lease = IsLease lease
 LeaseFits arguments.IdAndLease lease = IsMillis lease
 LeaseFits _ lease = lease ≡ leases.For 0
 
@@ -85,6 +111,9 @@ IsEvent (Quit client thread) = AreNumbers client thread
 IsEvent (Sub client) = IsNumber client
 IsEvent (Push client) = IsNumber client
 IsEvent (Tick moment) = moment ≤ last_moment
+IsEvent (RenewAsk client thread kind name) = AreNumbers client thread × IsName name
+IsEvent (RenewExec client thread kind name) = AreNumbers client thread × IsName name
+IsEvent (RenewTake client thread kind name) = AreNumbers client thread × IsName name
 IsEvent (Force name) = IsName name
 IsEvent (Cut client) = IsNumber client
 IsEvent Show = Unit {0}

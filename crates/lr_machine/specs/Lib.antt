@@ -7,3 +7,4 @@ pub mod Within
 pub mod EventText
 pub mod Transcript
 pub mod Sound
+pub mod Renewals

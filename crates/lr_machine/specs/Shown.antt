@@ -25,11 +25,17 @@ use Rattle.lr_waiting.specs.declared.told.WokenStep.{WokenStep}
 use Rattle.lr_waiting.specs.declared.told.WokenStep.TheVariants as wakes
 use Rattle.lr_waiting.specs.declared.waiter.Asking.{Asking}
 use Rattle.lr_waiting.specs.declared.waiter.Phase.TheVariants as phases
+use Rattle.lr_waiting.specs.declared.watch.RenewFault.{RenewFault}
+use Rattle.lr_waiting.specs.declared.watch.RenewFault.TheVariants.{NoWatch, Renewing, NotDue}
+use Rattle.lr_waiting.specs.declared.watch.RenewTaken.{RenewTaken}
+use Rattle.lr_waiting.specs.declared.watch.Renewal.{Renewal}
+use Rattle.lr_waiting.specs.declared.watch.WatchKey.{WatchKey}
 use Rattle.lr_waiting.specs.Client.{Client, phase_of}
 use Rattle.lr_waiting.specs.Latch.{told_of_message, deliver_in}
 use Rattle.lr_waiting.specs.Session.{Session, begin_row, ask_row, fire_row, quit_row}
 use Rattle.lr_waiting.specs.Stand.{stand_of}
 use Rattle.lr_waiting.specs.Told.{taken_by, look_by, wakeup_by, end_by, woken_by_acknowledgement}
+use Rattle.lr_waiting.specs.Watchdog.{renew_fault, renewal_taken_by, is_renewed}
 use Rattle.lr_machine.specs.declared.event.Event.{Event}
 use Rattle.lr_machine.specs.declared.event.Event.TheVariants as events
 use Rattle.lr_machine.specs.declared.shown.Found.{Found}
@@ -39,7 +45,7 @@ use Rattle.lr_machine.specs.declared.shown.Reached.{Reached}
 use Rattle.lr_machine.specs.declared.shown.Shown.{Shown}
 use Rattle.lr_machine.specs.declared.shown.Shown.TheVariants as shows
 use Rattle.lr_machine.specs.RepliedValue.{RepliedValue}
-use Rattle.lr_machine.specs.World.{World, state_of, connection_of, force_of, asking_of, order_for, item_for, dropped_at}
+use Rattle.lr_machine.specs.World.{World, state_of, connection_of, force_of, asking_of, hold_key, renewing_in, renewal_for, order_for, item_for, dropped_at}
 
 -- the phase in which an event finds a thread
 abbrev pub found_at : World → ℕ → ℕ → Found
@@ -121,6 +127,27 @@ abbrev pub found_for : Client → Found → Found
 found_for client nothing =
     if client.session.is_cut then found.Phase phases.Cut else nothing
 
+-- of a renewal that is asked for, or why it can't be
+abbrev pub found_fault : RenewFault → Found
+found_fault NoWatch = found.Watch
+found_fault Renewing = found.Renewing
+found_fault (NotDue due) = found.Due
+
+abbrev pub shown_fault : Client → Option RenewFault → Shown
+shown_fault client None = shows.RenewAsked
+shown_fault client (Some fault) = shows.No (found_for client (found_fault fault))
+
+-- of a renewal that the server runs
+abbrev pub shown_renew : World → ℕ → WatchKey → Option Renewal → Shown
+shown_renew world c key (Some renewal) = shown_call world (renewal_for world c key)
+shown_renew world c key None = shows.No (found_for (world.clients c) found.Renewal)
+
+-- of the reply to a renewal that a client takes
+abbrev pub renewed_from : WatchKey → Option Reply → Session → Option RenewTaken
+renewed_from key None session = None
+renewed_from key (Some reply) session =
+    renewal_taken_by (is_renewed reply) key session.watchdog
+
 -- of an item that the server has sent
 abbrev pub shown_item : Session → Push → Shown
 shown_item session (Subscribed channel channels) =
@@ -188,6 +215,18 @@ shown world (events.Push c) =
     shown_of (shown_item (world.clients c).session) (item_for world c)
     (found_for (world.clients c) found.Pushes)
 shown world (events.Tick moment) = shows.Moment (later world.moment moment)
+shown world (events.RenewAsk c t kind name) =
+    let client = world.clients c in
+    shown_fault client
+    (renew_fault world.moment (hold_key c t kind name) client.session.watchdog)
+shown world (events.RenewExec c t kind name) =
+    let key = hold_key c t kind name in
+    shown_renew world c key (renewing_in world c key)
+shown world (events.RenewTake c t kind name) =
+    let key = hold_key c t kind name in
+    let client = world.clients c in
+    shown_of shows.RenewTaken (renewed_from key (client.renewed key) client.session)
+    (found_for client found.Renewal)
 shown world (events.Force name) = shown_call world (force_of name)
 shown world (events.Cut c) = shown_cut (world.clients c)
 shown world events.Show = shows.Standings (standings_of world)

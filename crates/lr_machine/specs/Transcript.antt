@@ -10,6 +10,8 @@ use Rattle.lr_waiting.specs.declared.stand.Stand.TheVariants as stands
 use Rattle.lr_waiting.specs.declared.stand.Standing.{Standing}
 use Rattle.lr_waiting.specs.declared.waiter.Phase.{Phase}
 use Rattle.lr_waiting.specs.declared.waiter.Phase.TheVariants as phases
+use Rattle.lr_waiting.specs.declared.watch.RenewTaken.{RenewTaken}
+use Rattle.lr_waiting.specs.declared.watch.RenewTaken.TheVariants as renewals
 use Rattle.lr_machine.specs.declared.event.Event.{Event}
 use Rattle.lr_machine.specs.declared.schedule_line.ScheduleLine.{ScheduleLine}
 use Rattle.lr_machine.specs.declared.schedule_line.ScheduleLine.TheVariants as kinds
@@ -51,10 +53,20 @@ abbrev pub found_word : Found → List ℕ
 found_word (found.Phase phase) = phase_word phase
 found_word found.Orders = codes "orders"
 found_word found.Pushes = codes "pushes"
+found_word found.Watch = codes "watch"
+found_word found.Renewing = codes "renewing"
+found_word found.Due = codes "due"
+found_word found.Renewal = codes "renewal"
 
 abbrev pub due_text : Due → List ℕ
 due_text (At moment) = decimal moment
 due_text Never = codes "never"
+
+-- what comes of the reply to a renewal
+abbrev pub renewal_text : RenewTaken → List ℕ
+renewal_text (renewals.Due moment) = codes "due " ++ decimal moment
+renewal_text renewals.Ended = codes "ended"
+renewal_text renewals.Stale = codes "stale"
 
 -- an order, and how many channels its connection then has
 abbrev pub order_word : Bool → List ℕ
@@ -120,6 +132,8 @@ shown_text (shows.Left channel) = left_text channel
 shown_text (shows.Delivered channel number) =
     codes "message " ++ channel_text channel ++ codes " " ++ decimal number
 shown_text (shows.Moment moment) = codes "moment " ++ decimal moment
+shown_text shows.RenewAsked = codes "renew-asked"
+shown_text (shows.RenewTaken taken) = renewal_text taken
 shown_text shows.Cut = codes "cut"
 shown_text (shows.Standings standings) = standings_text standings
 shown_text (shows.No f) = codes "no " ++ found_word f

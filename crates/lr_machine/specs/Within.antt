@@ -4,7 +4,7 @@ use Rattle.lr_limits.specs.Limits.{client_limit}
 use Rattle.lr_names.specs.Owner.{IsThread}
 use Rattle.lr_waiting.specs.Begin.{CanBegin}
 use Rattle.lr_machine.specs.declared.event.Event.{Event}
-use Rattle.lr_machine.specs.declared.event.Event.TheVariants.{Begin, Ask, Exec, Take, Check, Wake, Fire, Quit, Sub, Push, Tick, Force, Cut, Show}
+use Rattle.lr_machine.specs.declared.event.Event.TheVariants.{Begin, Ask, Exec, Take, Check, Wake, Fire, Quit, Sub, Push, Tick, RenewAsk, RenewExec, RenewTake, Force, Cut, Show}
 
 -- clients are numbered from 1 to 64
 abbrev pub IsClient : ℕ → Type 0
@@ -23,6 +23,9 @@ IsWithin (Quit client thread) = IsClient client × IsThread thread
 IsWithin (Sub client) = IsClient client
 IsWithin (Push client) = IsClient client
 IsWithin (Tick moment) = Unit {0}
+IsWithin (RenewAsk client thread kind name) = IsClient client × IsThread thread
+IsWithin (RenewExec client thread kind name) = IsClient client × IsThread thread
+IsWithin (RenewTake client thread kind name) = IsClient client × IsThread thread
 IsWithin (Force name) = Unit {0}
 IsWithin (Cut client) = IsClient client
 IsWithin Show = Unit {0}

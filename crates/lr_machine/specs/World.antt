@@ -19,9 +19,13 @@ use Rattle.lr_model.specs.Moment.{later}
 use Rattle.lr_model.specs.Table.{put}
 use Rattle.lr_waiting.specs.declared.latch.Order.{Order}
 use Rattle.lr_waiting.specs.declared.waiter.Asking.{Asking}
-use Rattle.lr_waiting.specs.Client.{Client, new_client, cut_client, client_row, with_reply, asked_of, take_reply}
+use Rattle.lr_waiting.specs.declared.watch.Renewal.{Renewal}
+use Rattle.lr_waiting.specs.declared.watch.WatchKey.{WatchKey}
+use Rattle.lr_waiting.specs.declared.watch.WatchKind.{WatchKind}
+use Rattle.lr_waiting.specs.Client.{Client, new_client, cut_client, client_row, with_reply, asked_of, take_reply, with_renewed, renewing_of, take_renewed}
 use Rattle.lr_waiting.specs.Latch.{first_order_of}
-use Rattle.lr_waiting.specs.Session.{Session, begin_row, ask_row, check_row, wake_row, fire_row, quit_row, pushed, order_taken}
+use Rattle.lr_waiting.specs.Session.{Session, begin_row, ask_row, check_row, wake_row, fire_row, quit_row, renew_row, pushed, order_taken}
+use Rattle.lr_waiting.specs.Watchdog.{renewal_op}
 use Rattle.lr_machine.specs.declared.event.Event.{Event}
 use Rattle.lr_machine.specs.declared.event.Event.TheVariants as events
 use Rattle.lr_machine.specs.Clients.{client_id, client_at, command_connection, subscription_connection, caller_of, client_caller, operator, operator_connection}
@@ -63,6 +67,19 @@ unless_cut client found = if client.session.is_cut then None else found
 -- the call that a thread has sent and the server hasn't run
 abbrev pub asking_of : World → ℕ → ℕ → Option Asking
 asking_of world c t = unless_cut (world.clients c) (asked_of (world.clients c) t)
+
+-- the hold of a client's thread that a renewal is about
+abbrev pub hold_key : ℕ → ℕ → WatchKind → List ℕ → WatchKey
+hold_key c t kind name =
+    record { owner = record { client = client_id c; thread = t }; kind = kind; name = name }
+
+-- the renewal that a client has asked for and the server hasn't run
+abbrev pub renewing_in : World → ℕ → WatchKey → Option Renewal
+renewing_in world c key = unless_cut (world.clients c) (renewing_of (world.clients c) key)
+
+-- its call, with the lease of the client's watchdog
+abbrev pub renewal_for : World → ℕ → WatchKey → Op
+renewal_for world c key = renewal_op key (world.clients c).session.watchdog.lease
 
 -- the oldest order of a client
 abbrev pub order_for : World → ℕ → Option Order
@@ -139,6 +156,18 @@ next_exec world c t (Some asking) =
     with_call (caller_of c t) (command_connection c) asking.op (answered_in world c t asking.op)
 next_exec world c t None = world
 
+-- the server runs a renewal, whose reply waits for the client then
+abbrev pub renewed_in : World → ℕ → WatchKey → Op → World
+renewed_in world c key op =
+    let reply = reply_of (state_of world).objects world.moment op in
+    next_row world c (Some (with_renewed key (Some reply) (world.clients c)))
+
+abbrev pub next_renewal : World → ℕ → WatchKey → Option Renewal → World
+next_renewal world c key None = world
+next_renewal world c key (Some renewal) =
+    let op = renewal_for world c key in
+    with_call (client_caller c) (command_connection c) op (renewed_in world c key op)
+
 -- what an order makes the server do
 abbrev pub act_of : Order → Act
 act_of order = if order.subscribe then Subscribe order.channel else Unsubscribe order.channel
@@ -177,6 +206,13 @@ next world (events.Quit c t) = next_step world c (quit_row t)
 next world (events.Sub c) = next_order world c (order_for world c)
 next world (events.Push c) = next_item world c (item_for world c)
 next world (events.Tick moment) = record world { moment = later world.moment moment }
+next world (events.RenewAsk c t kind name) =
+    next_step world c (renew_row (hold_key c t kind name) world.moment)
+next world (events.RenewExec c t kind name) =
+    let key = hold_key c t kind name in
+    next_renewal world c key (renewing_in world c key)
+next world (events.RenewTake c t kind name) =
+    next_row world c (take_renewed (hold_key c t kind name) (world.clients c))
 next world (events.Force name) = with_call operator operator_connection (force_of name) world
 next world (events.Cut c) = next_cut world c
 next world events.Show = world

@@ -1,5 +1,6 @@
 use lr_names::Name;
 use lr_objects::{Mode, Want};
+use lr_waiting::WatchKind;
 
 /// What happens next in a schedule. Clients are numbered from 1 to 64, and threads of a client from 1
 /// to 256.
@@ -77,6 +78,39 @@ pub enum Event {
     },
     /// The clock shows this moment, in milliseconds.
     Tick(u64),
+    /// A client asks for the renewal of a hold that it watches and that has fallen due.
+    RenewAsk {
+        /// The client.
+        client: u32,
+        /// The thread that holds it.
+        thread: u32,
+        /// The kind of lock.
+        kind: WatchKind,
+        /// The lock.
+        name: Name,
+    },
+    /// The server executes the renewal of a hold.
+    RenewExec {
+        /// The client.
+        client: u32,
+        /// The thread that holds it.
+        thread: u32,
+        /// The kind of lock.
+        kind: WatchKind,
+        /// The lock.
+        name: Name,
+    },
+    /// The client takes the reply to the renewal of a hold.
+    RenewTake {
+        /// The client.
+        client: u32,
+        /// The thread that holds it.
+        thread: u32,
+        /// The kind of lock.
+        kind: WatchKind,
+        /// The lock.
+        name: Name,
+    },
     /// An operator takes a lock away from whoever holds it.
     Force(Name),
     /// A client is cut off: its two connections are closed, and what it knew is lost.

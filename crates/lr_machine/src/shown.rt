@@ -2,7 +2,7 @@ use crate::clients::Clients;
 use crate::standings::Standings;
 use lr_names::{Channel, Due};
 use lr_objects::Reply;
-use lr_waiting::{Order, Phase};
+use lr_waiting::{Order, Phase, RenewTaken};
 use std::marker::Model;
 
 /// A message, and how many connections it reached.
@@ -53,6 +53,14 @@ pub enum Found {
     Orders,
     /// Nothing waits that the server has sent.
     Pushes,
+    /// The client doesn't watch the hold.
+    Watch,
+    /// A renewal of the hold was asked for, and its reply wasn't taken.
+    Renewing,
+    /// The hold falls due later.
+    Due,
+    /// No renewal of the hold was asked for that isn't executed, or executed that isn't taken.
+    Renewal,
 }
 
 /// What a transcript shows of an event.
@@ -94,6 +102,10 @@ pub enum Shown {
     Delivered(Channel, u64),
     /// The moment now, in milliseconds.
     Moment(u64),
+    /// A renewal was asked for.
+    RenewAsked,
+    /// The reply to a renewal was taken, and this came of it.
+    RenewTaken(RenewTaken),
     /// A client was cut off.
     Cut,
     /// What stands for the threads that sleep.

@@ -1,5 +1,6 @@
 -- No step of a client's core cuts it off.
 use Rattle.std.proofs.Common.{◌≡◌, ℕ, Bool, true, false, Option, Some, None, if◌then◌else◌, refl, ◌∙◌}
+use Rattle.std.specs.Option.{option_map}
 use Rattle.lr_names.specs.declared.post.Push.{Push}
 use Rattle.lr_names.specs.declared.post.Push.TheVariants.{Subscribed, Unsubscribed, Message}
 use Rattle.lr_objects.specs.declared.kinds.Function.{Function}
@@ -16,10 +17,13 @@ use Rattle.lr_waiting.specs.declared.waiter.Refusal.{Refusal}
 use Rattle.lr_waiting.specs.declared.waiter.Stage.{Stage}
 use Rattle.lr_waiting.specs.declared.waiter.Stage.TheVariants.{Fresh, Asked, Joining, Ready, Refused, Asleep, Leaving}
 use Rattle.lr_waiting.specs.declared.waiter.Waiter.{Waiter}
+use Rattle.lr_waiting.specs.declared.watch.RenewFault.{RenewFault}
+use Rattle.lr_waiting.specs.declared.watch.Renewal.{Renewal}
 use Rattle.lr_waiting.specs.declared.watch.WatchKey.{WatchKey}
-use Rattle.lr_waiting.specs.Client.{Client, client_row, with_reply, take_with, take_reply}
+use Rattle.lr_waiting.specs.Client.{Client, client_row, with_reply, take_with, take_reply, with_renewed, take_renewed_with, take_renewed}
+use Rattle.lr_waiting.specs.Watchdog.{renew_fault, renewal_taken, is_renewed}
 use Rattle.lr_waiting.specs.Latch.{acknowledge_in, is_due, is_subscribed, checked_in, register_in, woken_in}
-use Rattle.lr_waiting.specs.Session.{Session, begin_row, begin_at, ask_row, ask_at, take_row, take_at, check_row, check_at, checked, wake_row, wake_at, woken, fire_row, fire_at, leaving_function, given_up, quit, quit_row, quit_at, pushed, of_waiter, taken, refused, registered, without_waiter, watched_by, watch_begun, watch_ended, waits_for, due_after, key_in, entry_for, channel_in, with_latches, with_stage, with_ticket, with_waiter, with_joined}
+use Rattle.lr_waiting.specs.Session.{Session, begin_row, begin_at, ask_row, ask_at, take_row, take_at, check_row, check_at, checked, wake_row, wake_at, woken, fire_row, fire_at, leaving_function, given_up, quit, quit_row, quit_at, pushed, of_waiter, taken, refused, registered, without_waiter, watched_by, watch_begun, watch_ended, waits_for, due_after, key_in, entry_for, channel_in, with_latches, with_stage, with_ticket, with_waiter, with_joined, with_watchdog, renew_unless, renew_row, renewed_row}
 use Rattle.lr_waiting.specs.Latch.{leave_at, register_at, acknowledge_at}
 
 -- a step, where it applies, leaves a client as cut off as it was
@@ -296,3 +300,37 @@ cut-pushed (Subscribed channel channels) session =
     by false = refl
 cut-pushed (Unsubscribed channel channels) session = refl
 cut-pushed (Message channel wakes) session = refl
+
+-- Renewals.
+
+keeps-renew_unless : (fault : Option RenewFault) (moment : ℕ) (key : WatchKey) (session : Session)
+    → KeepsCut session (renew_unless fault moment key session)
+keeps-renew_unless (Some fault) moment key session = tt
+keeps-renew_unless None moment key session = refl
+
+pub keeps-renew : (key : WatchKey) (moment : ℕ) (session : Session)
+    → KeepsCut session (renew_row key moment session)
+keeps-renew key moment session =
+    keeps-renew_unless (renew_fault moment key session.watchdog) moment key session
+
+keeps-renewed_row : (key : WatchKey) (reply : Reply) (session : Session)
+    → KeepsCut session (renewed_row key reply session)
+keeps-renewed_row key reply session = by (session.watchdog.renewals key)
+  where
+    by : (found : Option Renewal)
+        → KeepsCut session
+        (option_map
+        (λ renewal. with_watchdog (renewal_taken (is_renewed reply) key session.watchdog) session)
+        found)
+    by None = tt
+    by (Some renewal) = refl
+
+pub keeps-take_renewed : (key : WatchKey) (client : Client)
+    → ClientKeepsCut client (take_renewed key client)
+keeps-take_renewed key client = by (client.renewed key)
+  where
+    by : (reply : Option Reply) → ClientKeepsCut client (take_renewed_with key reply client)
+    by None = tt
+    by (Some reply) =
+        keeps-client_row (renewed_row key reply) (with_renewed key None client)
+        (keeps-renewed_row key reply client.session)

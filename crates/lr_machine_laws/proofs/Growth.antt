@@ -1,5 +1,5 @@
 -- What an event adds to the history: what it makes the server do, and nothing else.
-use Rattle.std.proofs.Common.{◌≡◌, ◌≢◌, ℕ, ◌+◌, ◌*◌, ◌≤◌, ◌<◌, ◌==◌, List, [], ◌∷◌, ◌++◌, Bool, true, false, ◌||◌, Option, Some, None, if◌then◌else◌, refl, sym, ap, ◌∙◌, append-nil, append_assoc, ◌⊎◌}
+use Rattle.std.proofs.Common.{◌≡◌, ℕ, List, [], ◌∷◌, ◌++◌, Bool, true, false, Option, Some, None, if◌then◌else◌, refl, sym, ap, ◌∙◌, append-nil, append_assoc}
 use Rattle.lr_names.specs.declared.post.Push.{Push}
 use Rattle.lr_objects.specs.declared.op.Op.{Op}
 use Rattle.lr_model.specs.declared.entry.Entry.{Entry}
@@ -8,12 +8,14 @@ use Rattle.lr_model.specs.Board.{has_room}
 use Rattle.lr_model.specs.History.{Deed, call_entry, entry_of, deeds_of}
 use Rattle.lr_waiting.specs.declared.latch.Order.{Order}
 use Rattle.lr_waiting.specs.declared.waiter.Asking.{Asking}
+use Rattle.lr_waiting.specs.declared.watch.Renewal.{Renewal}
+use Rattle.lr_waiting.specs.declared.watch.WatchKey.{WatchKey}
 use Rattle.lr_waiting.specs.Session.{order_taken}
 use Rattle.lr_machine.specs.declared.event.Event.{Event}
-use Rattle.lr_machine.specs.declared.event.Event.TheVariants.{Exec, Sub, Push as push, Force, Cut}
+use Rattle.lr_machine.specs.declared.event.Event.TheVariants.{Exec, Sub, Push as push, RenewExec, Force, Cut}
 use Rattle.lr_machine.specs.Clients.{command_connection, subscription_connection, operator, operator_connection, caller_of, client_caller}
-use Rattle.lr_machine.specs.Deeds.{deeds_of_cut, deeds_of_call, deeds_of_exec, deeds_of_order, deeds_of_item, deeds_of_event}
-use Rattle.lr_machine.specs.World.{World, state_of, connection_of, force_of, asking_of, order_for, item_for, next_step, with_entry, closes_of_all, with_cut, dropped_at, with_call, answered_in, next_exec, act_of, next_order, next_item, next}
+use Rattle.lr_machine.specs.Deeds.{deeds_of_cut, deeds_of_call, deeds_of_exec, deeds_of_renewal, deeds_of_order, deeds_of_item, deeds_of_event}
+use Rattle.lr_machine.specs.World.{World, state_of, connection_of, force_of, asking_of, order_for, item_for, next_step, with_entry, closes_of_all, with_cut, dropped_at, with_call, answered_in, next_exec, hold_key, renewing_in, renewal_for, renewed_in, next_renewal, act_of, next_order, next_item, next}
 
 pub deeds_of-append : (xs ys : List Entry) → deeds_of (xs ++ ys) ≡ deeds_of xs ++ deeds_of ys
 deeds_of-append [] ys = refl
@@ -48,6 +50,14 @@ deeds_of-exec : (world : World) (c t : ℕ) (asking : Option Asking)
 deeds_of-exec world c t None = sym (append-nil (deeds_of world.entries))
 deeds_of-exec world c t (Some asking) =
     deeds_of-call (answered_in world c t asking.op) (caller_of c t) (command_connection c) asking.op
+
+deeds_of-renewal : (world : World) (c : ℕ) (key : WatchKey) (renewal : Option Renewal)
+    → deeds_of (next_renewal world c key renewal).entries
+    ≡ deeds_of world.entries ++ deeds_of_renewal world c key renewal
+deeds_of-renewal world c key None = sym (append-nil (deeds_of world.entries))
+deeds_of-renewal world c key (Some renewal) =
+    deeds_of-call (renewed_in world c key (renewal_for world c key)) (client_caller c)
+    (command_connection c) (renewal_for world c key)
 
 deeds_of-cut : (world : World) (cs : List ℕ)
     → deeds_of (with_cut cs world).entries ≡ deeds_of world.entries ++ deeds_of_cut cs
@@ -101,6 +111,8 @@ pub deeds_of-next : (world : World) (event : Event)
 deeds_of-next world (Exec c t) = deeds_of-exec world c t (asking_of world c t)
 deeds_of-next world (Sub c) = deeds_of-order world c (order_for world c)
 deeds_of-next world (push c) = deeds_of-item world c (item_for world c)
+deeds_of-next world (RenewExec c t kind name) =
+    let key = hold_key c t kind name in deeds_of-renewal world c key (renewing_in world c key)
 deeds_of-next world (Force name) = deeds_of-call world operator operator_connection (force_of name)
 deeds_of-next world (Cut c) = deeds_of-next_cut world c (world.clients c).session.is_cut
 deeds_of-next world _ = sym (append-nil (deeds_of world.entries))

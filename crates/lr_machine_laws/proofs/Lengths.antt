@@ -1,6 +1,6 @@
 -- How long a history grows: an event makes one entry, and each client that it cuts off two more, and
 -- is cut off once.
-use Rattle.std.proofs.Common.{◌≡◌, ◌≢◌, ℕ, zero, suc, ◌+◌, ◌*◌, ◌≤◌, ◌<◌, ◌==◌, List, [], ◌∷◌, ◌++◌, length, Bool, true, false, ◌||◌, Option, Some, None, if◌then◌else◌, refl, sym, ap, ◌∙◌, arith, length-append, ◌⊎◌, inl, inr}
+use Rattle.std.proofs.Common.{◌≡◌, ◌≢◌, ℕ, zero, suc, ◌+◌, ◌*◌, ◌≤◌, ◌==◌, List, [], ◌∷◌, length, Bool, true, false, ◌||◌, Option, Some, None, if◌then◌else◌, refl, sym, ap, ◌∙◌, arith, length-append, ◌⊎◌, inl, inr}
 use Rattle.std.proofs.lemmas.Bool.{eq-eqb, ne_eqb, cases_eq}
 use Rattle.std.specs.List.{list_any}
 use Rattle.lr_limits.specs.Limits.{client_limit}
@@ -13,18 +13,20 @@ use Rattle.lr_model.specs.Board.{has_room}
 use Rattle.lr_model.specs.History.{call_entry, entry_of}
 use Rattle.lr_waiting.specs.declared.latch.Order.{Order}
 use Rattle.lr_waiting.specs.declared.waiter.Asking.{Asking}
-use Rattle.lr_waiting.specs.Client.{Client, cut_client, client_row, with_reply, take_reply}
+use Rattle.lr_waiting.specs.declared.watch.Renewal.{Renewal}
+use Rattle.lr_waiting.specs.declared.watch.WatchKey.{WatchKey}
+use Rattle.lr_waiting.specs.Client.{Client, cut_client, client_row, with_reply, take_reply, with_renewed, take_renewed}
 use Rattle.lr_waiting.specs.Latch.{first_order_of}
-use Rattle.lr_waiting.specs.Session.{Session, begin_row, ask_row, check_row, wake_row, fire_row, quit_row, pushed, order_taken}
+use Rattle.lr_waiting.specs.Session.{Session, begin_row, ask_row, check_row, wake_row, fire_row, quit_row, renew_row, pushed, order_taken}
 use Rattle.lr_machine.specs.declared.event.Event.{Event}
-use Rattle.lr_machine.specs.declared.event.Event.TheVariants.{Begin, Ask, Exec, Take, Check, Wake, Fire, Quit, Sub, Push as push, Tick, Force, Cut, Show}
+use Rattle.lr_machine.specs.declared.event.Event.TheVariants.{Begin, Ask, Exec, Take, Check, Wake, Fire, Quit, Sub, Push as push, Tick, RenewAsk, RenewExec, RenewTake, Force, Cut, Show}
 use Rattle.lr_machine.specs.Clients.{command_connection, subscription_connection, operator, operator_connection, caller_of, client_caller}
 use Rattle.lr_machine.specs.Sound.{IsInOrder, clients_left}
 use Rattle.lr_machine.specs.Within.{IsWithin, IsClient}
-use Rattle.lr_machine.specs.World.{World, state_of, connection_of, force_of, clients_after, next_row, next_step, with_entry, closes_of_all, cut_among, with_cut, clients_dropped, dropped_at, with_call, answered_in, next_exec, asking_of, item_for, act_of, next_order, next_item, next}
+use Rattle.lr_machine.specs.World.{World, state_of, connection_of, force_of, clients_after, next_row, next_step, with_entry, closes_of_all, cut_among, with_cut, clients_dropped, dropped_at, with_call, answered_in, next_exec, hold_key, renewing_in, renewal_for, renewed_in, next_renewal, asking_of, item_for, act_of, next_order, next_item, next}
 use Rattle.lr_machine_laws.proofs.Closes.{AreApart, AreDistinct, AreLeft, AreDistinct-dropped, AreLeft-dropped, others_left}
-use Rattle.lr_machine_laws.proofs.Cuts.{KeepsCut, ClientKeepsCut, keeps-client_row, keeps-begin, keeps-ask, keeps-take, keeps-check, keeps-wake, keeps-fire, keeps-quit, cut-pushed}
-use Rattle.lr_machine_laws.proofs.Worlds.{same_cut-after, IsInOrder-answered}
+use Rattle.lr_machine_laws.proofs.Cuts.{KeepsCut, ClientKeepsCut, keeps-client_row, keeps-begin, keeps-ask, keeps-take, keeps-check, keeps-wake, keeps-fire, keeps-quit, keeps-renew, keeps-take_renewed, cut-pushed}
+use Rattle.lr_machine_laws.proofs.Worlds.{same_cut-after, IsInOrder-answered, IsInOrder-renewed}
 
 -- how many entries there may be still: two for each client that may be cut off
 abbrev pub with_closes : World → ℕ
@@ -184,6 +186,21 @@ length-exec world c t (Some asking) order answered =
     asking.op (answered asking.op) in
     omega (arith, row, call)
 
+length-renewal : (world : World) (c : ℕ) (key : WatchKey) (renewal : Option Renewal)
+    → IsInOrder world → IsInOrder (renewed_in world c key (renewal_for world c key))
+    → with_closes (next_renewal world c key renewal) ≤ with_closes world + 1
+length-renewal world c key None order renewed = omega arith
+length-renewal world c key (Some renewal) order renewed =
+    let op = renewal_for world c key in
+    let row =
+    length-row world c
+    (Some
+    (with_renewed key (Some (reply_of (state_of world).objects world.moment op))
+    (world.clients c))) refl in
+    let call =
+    length-call (renewed_in world c key op) (client_caller c) (command_connection c) op renewed in
+    omega (arith, row, call)
+
 one_client : (world : World) (c : ℕ) → IsClient c → (world.clients c).session.is_cut ≡ false
     → with_closes (with_cut (c ∷ []) world) ≡ with_closes world
 one_client world c client uncut =
@@ -254,6 +271,22 @@ length-next world (Sub c) within order =
     (world.clients c).session.is_cut refl
 length-next world (push c) within order = length-item world c (item_for world c)
 length-next world (Tick moment) within order = omega arith
+length-next world (RenewAsk c t kind name) within order =
+    omega (
+      arith,
+      length-step world c (renew_row (hold_key c t kind name) world.moment)
+          (keeps-renew (hold_key c t kind name) world.moment),
+    )
+length-next world (RenewExec c t kind name) within order =
+    let key = hold_key c t kind name in
+    length-renewal world c key (renewing_in world c key) order
+    (IsInOrder-renewed world c key (renewal_for world c key) order)
+length-next world (RenewTake c t kind name) within order =
+    omega (
+      arith,
+      length-row world c (take_renewed (hold_key c t kind name) (world.clients c))
+          (keeps-take_renewed (hold_key c t kind name) (world.clients c)),
+    )
 length-next world (Force name) within order =
     length-call world operator operator_connection (force_of name) order
 length-next world (Cut c) within order =

@@ -1,5 +1,5 @@
 -- The world after an event: its history is in order, and has what the event made the server do.
-use Rattle.std.proofs.Common.{◌≡◌, ℕ, ◌+◌, ◌*◌, ◌≤◌, ◌==◌, List, [], ◌∷◌, ◌++◌, Bool, true, false, IsTrue, Option, Some, None, is_some, ◌≢◌, slice_get, if◌then◌else◌, refl, sym, ap, ◌∙◌, subst, arith, append_assoc, ◌⊎◌, inl, inr}
+use Rattle.std.proofs.Common.{◌≡◌, ℕ, ◌≤◌, ◌==◌, List, [], ◌∷◌, ◌++◌, Bool, true, false, IsTrue, Option, Some, None, is_some, ◌≢◌, slice_get, if◌then◌else◌, refl, sym, ap, ◌∙◌, subst, arith, append_assoc, ◌⊎◌, inl, inr}
 use Rattle.std.proofs.lemmas.Bool.{eq-eqb, ne_eqb, cases_eq}
 use Rattle.lr_names.specs.declared.post.Post.{Post}
 use Rattle.lr_names.specs.declared.post.Push.{Push}
@@ -13,18 +13,20 @@ use Rattle.lr_model.specs.History.{State, step, after, CanCall, MayFollow, IsLeg
 use Rattle.lr_model.specs.Table.{put}
 use Rattle.lr_waiting.specs.declared.latch.Order.{Order}
 use Rattle.lr_waiting.specs.declared.waiter.Asking.{Asking}
-use Rattle.lr_waiting.specs.Client.{Client, client_row, with_reply, asked_of, take_reply}
+use Rattle.lr_waiting.specs.declared.watch.Renewal.{Renewal}
+use Rattle.lr_waiting.specs.declared.watch.WatchKey.{WatchKey}
+use Rattle.lr_waiting.specs.Client.{Client, client_row, with_reply, asked_of, take_reply, with_renewed, renewing_of, take_renewed}
 use Rattle.lr_waiting.specs.Latch.{first_order_of}
-use Rattle.lr_waiting.specs.Session.{Session, begin_row, ask_row, check_row, wake_row, fire_row, quit_row, pushed, order_taken}
+use Rattle.lr_waiting.specs.Session.{Session, begin_row, ask_row, check_row, wake_row, fire_row, quit_row, renew_row, pushed, order_taken}
 use Rattle.lr_machine.specs.declared.event.Event.{Event}
-use Rattle.lr_machine.specs.declared.event.Event.TheVariants.{Begin, Ask, Exec, Take, Check, Wake, Fire, Quit, Sub, Push as push, Tick, Force, Cut, Show}
+use Rattle.lr_machine.specs.declared.event.Event.TheVariants.{Begin, Ask, Exec, Take, Check, Wake, Fire, Quit, Sub, Push as push, Tick, RenewAsk, RenewExec, RenewTake, Force, Cut, Show}
 use Rattle.lr_machine.specs.Clients.{command_connection, subscription_connection, operator, operator_connection, caller_of, client_caller}
 use Rattle.lr_machine.specs.Sound.{IsInOrder, IsConnected, IsHeard, AreConnected}
 use Rattle.lr_machine.specs.Within.{IsWithin, IsClient}
-use Rattle.lr_machine.specs.World.{World, first_state, first_world, state_of, connection_of, force_of, clients_after, next_row, next_step, with_entry, closes_of_all, cut_among, with_cut, clients_dropped, dropped_at, with_call, answered_in, next_exec, next_order, next_item, next}
+use Rattle.lr_machine.specs.World.{World, first_state, first_world, state_of, connection_of, force_of, clients_after, next_row, next_step, with_entry, closes_of_all, cut_among, with_cut, clients_dropped, dropped_at, with_call, answered_in, next_exec, hold_key, renewal_for, renewed_in, next_renewal, next_order, next_item, next}
 use Rattle.lr_machine_laws.proofs.Closes.{GoesOn, GoesOn-cut, GoesOn-closes, AreClosable, AreClosable-dropped, AreDistinct-dropped}
 use Rattle.lr_machine_laws.proofs.Connections.{AreConnected-first, AreConnected-same_cut, AreConnected-after_post}
-use Rattle.lr_machine_laws.proofs.Cuts.{KeepsCut, ClientKeepsCut, keeps-client_row, keeps-begin, keeps-ask, keeps-take, keeps-check, keeps-wake, keeps-fire, keeps-quit, cut-pushed}
+use Rattle.lr_machine_laws.proofs.Cuts.{KeepsCut, ClientKeepsCut, keeps-client_row, keeps-begin, keeps-ask, keeps-take, keeps-check, keeps-wake, keeps-fire, keeps-quit, keeps-renew, keeps-take_renewed, cut-pushed}
 
 pub IsInOrder-first_world : IsInOrder first_world
 IsInOrder-first_world =
@@ -177,6 +179,28 @@ IsInOrder-exec world c t (Some asking) false e client order =
     IsInOrder-call (answered_in world c t asking.op) (caller_of c t) (command_connection c)
     asking.op (order.connected.each c client e).calls
     (IsInOrder-answered world c t asking.op order)
+
+-- a reply waits for a renewal
+pub IsInOrder-renewed : (world : World) (c : ℕ) (key : WatchKey) (op : Op) → IsInOrder world
+    → IsInOrder (renewed_in world c key op)
+IsInOrder-renewed world c key op order =
+    IsInOrder-row world c
+    (Some
+    (with_renewed key (Some (reply_of (state_of world).objects world.moment op))
+    (world.clients c)))
+    refl order
+
+-- a renewal, whose reply waits for its client
+IsInOrder-renewal : (world : World) (c : ℕ) (key : WatchKey) (renewal : Option Renewal)
+    → (cut : Bool) → (world.clients c).session.is_cut ≡ cut
+    → IsClient c → IsInOrder world
+    → IsInOrder (next_renewal world c key (if cut then None else renewal))
+IsInOrder-renewal world c key renewal true e client order = order
+IsInOrder-renewal world c key None false e client order = order
+IsInOrder-renewal world c key (Some renewal) false e client order =
+    IsInOrder-call (renewed_in world c key (renewal_for world c key)) (client_caller c)
+    (command_connection c) (renewal_for world c key) (order.connected.each c client e).calls
+    (IsInOrder-renewed world c key (renewal_for world c key) order)
 
 -- Orders, items and cuts.
 
@@ -399,6 +423,16 @@ IsInOrder-next world (Tick moment) within order = record {
   in_time = omega (arith, order.in_time);
   connected = order.connected;
 }
+IsInOrder-next world (RenewAsk c t kind name) within order =
+    IsInOrder-step world c (renew_row (hold_key c t kind name) world.moment)
+    (keeps-renew (hold_key c t kind name) world.moment) order
+IsInOrder-next world (RenewExec c t kind name) within order =
+    IsInOrder-renewal world c (hold_key c t kind name)
+    (renewing_of (world.clients c) (hold_key c t kind name)) (world.clients c).session.is_cut refl
+    within.0 order
+IsInOrder-next world (RenewTake c t kind name) within order =
+    IsInOrder-row world c (take_renewed (hold_key c t kind name) (world.clients c))
+    (keeps-take_renewed (hold_key c t kind name) (world.clients c)) order
 IsInOrder-next world (Force name) within order =
     IsInOrder-call world operator operator_connection (force_of name) order.connected.operator order
 IsInOrder-next world (Cut c) within order =

@@ -22,10 +22,13 @@ use Rattle.lr_waiting.specs.declared.waiter.Refusal.{Refusal}
 use Rattle.lr_waiting.specs.declared.waiter.Stage.{Stage}
 use Rattle.lr_waiting.specs.declared.waiter.Stage.TheVariants.{Fresh, Asked, Joining, Ready, Refused, Asleep, Leaving}
 use Rattle.lr_waiting.specs.declared.waiter.Waiter.{Waiter}
+use Rattle.lr_waiting.specs.declared.watch.RenewFault.{RenewFault}
+use Rattle.lr_waiting.specs.declared.watch.Renewal.{Renewal}
 use Rattle.lr_waiting.specs.declared.watch.WatchKey.{WatchKey}
-use Rattle.lr_waiting.specs.Client.{Client, client_row, with_reply, take_with, take_reply}
+use Rattle.lr_waiting.specs.Client.{Client, client_row, with_reply, take_with, take_reply, with_renewed, take_renewed_with, take_renewed}
+use Rattle.lr_waiting.specs.Watchdog.{renew_fault, renewal_taken, is_renewed}
 use Rattle.lr_waiting.specs.Latch.{acknowledge_in, acknowledge_at, is_due, is_subscribed, checked_in, leave_at, next_count, register_at, register_in, woken_in}
-use Rattle.lr_waiting.specs.Session.{Session, begin_row, begin_at, new_waiter, ask_row, ask_at, asked, asking_for, lease_asked, may_wait, leaving_function, leaving_want, given_up, quit, take_row, take_at, check_row, check_at, checked, wake_row, wake_at, woken, fire_row, fire_at, quit_row, quit_at, pushed, of_waiter, taken, refused, registered, without_waiter, watched_by, watch_begun, watch_ended, waits_for, due_after, key_in, entry_for, channel_in, with_latches, with_stage, with_ticket, with_waiter, with_joined, is_joining, joined_waiter, joining_ticket, at_stage}
+use Rattle.lr_waiting.specs.Session.{Session, begin_row, begin_at, new_waiter, ask_row, ask_at, asked, asking_for, lease_asked, may_wait, leaving_function, leaving_want, given_up, quit, take_row, take_at, check_row, check_at, checked, wake_row, wake_at, woken, fire_row, fire_at, quit_row, quit_at, pushed, of_waiter, taken, refused, registered, without_waiter, watched_by, watch_begun, watch_ended, waits_for, due_after, key_in, entry_for, channel_in, with_latches, with_stage, with_ticket, with_waiter, with_joined, is_joining, joined_waiter, joining_ticket, at_stage, with_watchdog, renew_unless, renew_row, renewed_row}
 use Rattle.lr_machine_wakeups.specs.WorldFacts.{AskedAt, IsMade, AskedWith, AreAsked}
 
 -- time goes on
@@ -474,3 +477,37 @@ asked-pushed moment id (Subscribed channel channels) session were =
 asked-pushed moment id (Unsubscribed channel channels) session were = were
 asked-pushed moment id (Message channel wakes) session were =
     record { own = were.own; each = were.each }
+
+-- Renewals are no calls of a thread.
+
+pub asked-renew : (moment : ℕ) (id : List ℕ) (key : WatchKey) (now : ℕ) (session : Session)
+    → AreAsked moment id session → AskedAfter moment id (renew_row key now session)
+asked-renew moment id key now session were = by (renew_fault now key session.watchdog)
+  where
+    by : (fault : Option RenewFault)
+        → AskedAfter moment id (renew_unless fault now key session)
+    by None = record { own = were.own; each = were.each }
+    by (Some fault) = tt
+
+asked-renewed_row : (moment : ℕ) (id : List ℕ) (key : WatchKey) (reply : Reply)
+    (session : Session) → AreAsked moment id session
+    → AskedAfter moment id (renewed_row key reply session)
+asked-renewed_row moment id key reply session were = by (session.watchdog.renewals key)
+  where
+    by : (found : Option Renewal)
+        → AskedAfter moment id
+        (option_map
+        (λ renewal. with_watchdog (renewal_taken (is_renewed reply) key session.watchdog) session)
+        found)
+    by None = tt
+    by (Some renewal) = record { own = were.own; each = were.each }
+
+pub asked-take_renewed : (moment : ℕ) (id : List ℕ) (key : WatchKey) (client : Client)
+    → AreAsked moment id client.session → ClientAsked moment id (take_renewed key client)
+asked-take_renewed moment id key client were = by (client.renewed key)
+  where
+    by : (reply : Option Reply) → ClientAsked moment id (take_renewed_with key reply client)
+    by None = tt
+    by (Some reply) =
+        asked-client_row moment id (renewed_row key reply) (with_renewed key None client)
+        (asked-renewed_row moment id key reply client.session were)

@@ -1,5 +1,5 @@
 -- A reply that refuses the call of a request for a fair lock leaves it a place in the queue.
-use Rattle.std.proofs.Common.{◌≡◌, ℕ, ◌+◌, ◌-◌, ◌≤◌, ◌==◌, nat_lt, min, length, List, [], ◌∷◌, Bool, true, false, Option, Some, None, if◌then◌else◌, refl, sym, ap, ◌∙◌, subst, arith, ◌⊎◌, inl, inr}
+use Rattle.std.proofs.Common.{◌≡◌, ℕ, ◌+◌, ◌-◌, ◌≤◌, ◌==◌, nat_lt, min, length, List, [], ◌∷◌, Bool, true, false, not, Option, Some, None, if◌then◌else◌, refl, sym, ap, ◌∙◌, subst, arith, ◌⊎◌, inl, inr}
 use Rattle.std.specs.Option.{option_map}
 use Rattle.std.proofs.lemmas.Bool.{and_from, false≢true}
 use Rattle.lr_limits.specs.Limits.{hold_limit, member_limit}
@@ -34,7 +34,7 @@ use Rattle.lr_laws.proofs.FairPlaces.{place_left-call}
 use Rattle.lr_waiting.specs.declared.waiter.Asking.{Asking}
 use Rattle.lr_waiting.specs.declared.waiter.Waiter.{Waiter}
 use Rattle.lr_waiting.specs.Client.{Client, waiter_in, asked_by, asked_of}
-use Rattle.lr_waiting.specs.Queue.{is_queue_try, is_own_call, is_own_try, stale_of, stale_on, place_by_call}
+use Rattle.lr_waiting.specs.Queue.{is_queue_try, renews_fair, is_own_call, is_own_try, stale_of, stale_on, place_by_call}
 use Rattle.lr_waiting.specs.Session.{channel_for, owner_in, may_wait, leaving_function, leaving_want}
 use Rattle.lr_waiting.specs.Stand.{due_by_reply}
 use Rattle.lr_wakeups.specs.Joining.{is_queue_leave}
@@ -319,7 +319,9 @@ module _ (world : World) (owner : ThreadOfClient) (want : Want) (lease at : ℕ)
         kept =
             ap
             (λ b. if b then stale_on own (objects_after (state_of world).objects world.moment sent)
-            else left_of world own) owns
+            else left_of world own)
+            (and_from (is_own_call own sent) (not (renews_fair sent.call)) owns
+            (ap (λ f. not (renews_fair (call_of f want owner lease true))) told.0))
             ∙ ap
             (λ o. stale_of o want.name
             (objects_after (state_of world).objects world.moment sent))

@@ -1,5 +1,5 @@
 -- The owner of a channel makes a call: no thread was refused there.
-use Rattle.std.proofs.Common.{◌≡◌, ℕ, ◌<◌, ◌^◌, List, Bool, true, false, ◌&&◌, Option, Some, None, refl, sym, ap, ◌∙◌, arith, ◌⊎◌, inl, inr}
+use Rattle.std.proofs.Common.{◌≡◌, ℕ, ◌<◌, ◌^◌, List, Bool, true, false, not, ◌&&◌, Option, Some, None, refl, sym, ap, ◌∙◌, arith, ◌⊎◌, inl, inr}
 use Rattle.std.specs.Int.{w128, from_be_bytes}
 use Rattle.std.proofs.lemmas.Bool.{and_parts, false≢true}
 use Rattle.std.proofs.lemmas.Option.{same_Some}
@@ -24,10 +24,14 @@ use Rattle.lr_waiting.specs.declared.waiter.Asking.{Asking}
 use Rattle.lr_waiting.specs.declared.waiter.Stage.{Stage}
 use Rattle.lr_waiting.specs.declared.waiter.Stage.TheVariants.{Asked}
 use Rattle.lr_waiting.specs.declared.waiter.Waiter.{Waiter}
+use Rattle.lr_waiting.specs.declared.watch.WatchKey.{WatchKey}
+use Rattle.lr_waiting.specs.declared.watch.WatchKind.{WatchKind}
+use Rattle.lr_waiting.specs.declared.watch.WatchKind.TheVariants as watched
 use Rattle.lr_waiting.specs.Client.{Client, waiter_in, asked_at, asked_by, asked_of}
-use Rattle.lr_waiting.specs.Queue.{is_own_call}
+use Rattle.lr_waiting.specs.Queue.{is_own_call, renews_fair, leaves_place}
 use Rattle.lr_waiting.specs.Session.{channel_for, owner_in, may_wait, leaving_function, leaving_want}
 use Rattle.lr_waiting.specs.Stand.{waits_at}
+use Rattle.lr_waiting.specs.Watchdog.{renewal_call, renewal_op}
 use Rattle.lr_wakeups.specs.Queued.{NobodyIsBlocked}
 use Rattle.lr_wakeups.specs.Standing.{is_blocked_at, blocked_with, is_blocked}
 use Rattle.lr_wakeups.proofs.FairChannels.{registered_owner}
@@ -130,10 +134,11 @@ sent_by moment owner mode want asking sent is = by sent.op
         of asking.op (op_of left owner sent.lease (may_wait mode)) e
         (made_by owner left sent.lease (may_wait mode)) is
 
--- a call of the channel's owner
-own_call : (q : ChannelOf) (op : Op) → is_own_call q op ≡ true
+-- a call of the channel's owner about its place
+own_call : (q : ChannelOf) (op : Op) → leaves_place q op ≡ true
     → (is_fair q.kind ≡ true) × (q ≡ channel_of op)
-own_call q op own =
+own_call q op leaves =
+    let own = (and_parts (is_own_call q op) (not (renews_fair op.call)) leaves).0 in
     let parts = and_parts (is_fair q.kind) (same_channel q (channel_of op)) own in
     (parts.0, same_is q (channel_of op) parts.1)
 
@@ -168,11 +173,11 @@ pub caller-unblocked : (c t : ℕ) (clients : ℕ → Client) (moment : ℕ) (mo
     → IsAsked moment (record { client = client_id c; thread = t }) mode want asking
     → asked_of (clients c) t ≡ Some asking
     → (d : ℕ) → IsClient d → (clients d).session.client ≡ client_id d
-    → NobodyIsBlocked (λ q. is_own_call q asking.op) (clients d)
+    → NobodyIsBlocked (λ q. leaves_place q asking.op) (clients d)
 caller-unblocked c t clients moment mode want asking caller sent asked d other id =
     λ q thread own within. by q thread own (is_blocked q (clients d) thread) refl
   where
-    by : (q : ChannelOf) (thread : ℕ) → is_own_call q asking.op ≡ true → (b : Bool)
+    by : (q : ChannelOf) (thread : ℕ) → leaves_place q asking.op ≡ true → (b : Bool)
         → is_blocked q (clients d) thread ≡ b → is_blocked q (clients d) thread ≡ false
     by q thread own false e = e
     by q thread own true e =
@@ -193,8 +198,41 @@ caller-unblocked c t clients moment mode want asking caller sent asked d other i
 
 -- an operator's call isn't any owner's
 pub operator-unblocked : (name : List ℕ) (client : Client)
-    → NobodyIsBlocked (λ q. is_own_call q (force_of name)) client
+    → NobodyIsBlocked (λ q. leaves_place q (force_of name)) client
 operator-unblocked name client q thread own within =
     let parts = own_call q (force_of name) own in
     absurd
     (false≢true (sym (ap (λ (o : ChannelOf). is_fair o.kind) parts.1) ∙ parts.0))
+
+-- A renewal is about no place: that of a fair lock is its owner's own call, and the others are on
+-- objects that have no queue.
+pub renewal-unblocked : (key : WatchKey) (lease : ℕ) (client : Client)
+    → NobodyIsBlocked (λ q. leaves_place q (renewal_op key lease)) client
+renewal-unblocked key lease client q thread own within = by key.kind refl
+  where
+    -- it is on no fair lock
+    not_fair : is_fair (call_kind (renewal_op key lease).call) ≡ false
+        → is_blocked q client thread ≡ false
+    not_fair other =
+        let parts = own_call q (renewal_op key lease) own in
+        absurd
+        (false≢true
+        (sym other ∙ ap (λ (o : ChannelOf). is_fair o.kind) (sym parts.1) ∙ parts.0))
+
+    of : (kind : WatchKind) → key.kind ≡ kind
+        → is_fair (call_kind (renewal_call kind key.owner lease)) ≡ false
+        → is_blocked q client thread ≡ false
+    of kind e other =
+        not_fair (ap (λ k. is_fair (call_kind (renewal_call k key.owner lease))) e ∙ other)
+
+    by : (kind : WatchKind) → key.kind ≡ kind → is_blocked q client thread ≡ false
+    by watched.Fair e =
+        absurd
+        (false≢true
+        (sym (ap (λ k. not (renews_fair (renewal_call k key.owner lease))) e)
+        ∙ (and_parts (is_own_call q (renewal_op key lease))
+        (not (renews_fair (renewal_op key lease).call)) own).1))
+    by watched.Lock e = of watched.Lock e refl
+    by watched.Fenced e = of watched.Fenced e refl
+    by watched.Read e = of watched.Read e refl
+    by watched.Write e = of watched.Write e refl

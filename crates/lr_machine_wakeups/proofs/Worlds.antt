@@ -12,6 +12,7 @@ use Rattle.lr_names.specs.declared.post.Post.{Post}
 use Rattle.lr_names.specs.declared.post.Push.{Push}
 use Rattle.lr_names.specs.declared.post.Push.TheVariants.{Message}
 use Rattle.lr_objects.specs.declared.op.Op.{Op}
+use Rattle.lr_objects.specs.declared.reply.Reply.{Reply}
 use Rattle.lr_model.specs.declared.entry.Act.TheVariants.{Subscribe, Unsubscribe, Drain}
 use Rattle.lr_model.specs.declared.entry.Entry.{Entry}
 use Rattle.lr_model.specs.Answer.{reply_of, objects_after, post_of}
@@ -20,31 +21,34 @@ use Rattle.lr_model.specs.History.{State, step, call_entry, entry_of}
 use Rattle.lr_waiting.specs.declared.latch.Order.{Order}
 use Rattle.lr_waiting.specs.declared.waiter.Asking.{Asking}
 use Rattle.lr_waiting.specs.declared.waiter.Waiter.{Waiter}
-use Rattle.lr_waiting.specs.Client.{Client, waiter_in, cut_client, client_row, with_reply, asked_by, asked_of, take_reply}
+use Rattle.lr_waiting.specs.declared.watch.Renewal.{Renewal}
+use Rattle.lr_waiting.specs.declared.watch.WatchKey.{WatchKey}
+use Rattle.lr_waiting.specs.Client.{Client, waiter_in, cut_client, client_row, with_reply, asked_by, asked_of, take_reply, with_renewed, renewing_of, take_renewed}
 use Rattle.lr_waiting.specs.Latch.{first_order_of}
 use Rattle.lr_waiting.specs.Peak.{live_until, tells, peak_by_call, peak_by_act, peak_after}
-use Rattle.lr_waiting.specs.Queue.{is_own_call, is_own_try, stale_on, place_by_call, place_by_act, is_told, told_by_call, told_by_act}
-use Rattle.lr_waiting.specs.Session.{Session, begin_row, ask_row, check_row, wake_row, fire_row, quit_row, pushed, order_taken}
+use Rattle.lr_waiting.specs.Queue.{leaves_place, is_own_try, stale_on, place_by_call, place_by_act, is_told, told_by_call, told_by_act}
+use Rattle.lr_waiting.specs.Session.{Session, begin_row, ask_row, check_row, wake_row, fire_row, quit_row, renew_row, pushed, order_taken}
 use Rattle.lr_wakeups.specs.Facts.{Facts}
 use Rattle.lr_wakeups.specs.Queued.{QueueGoesOn, NobodyIsBlocked}
 use Rattle.lr_wakeups.specs.Reached.{Present, GoesOn}
 use Rattle.lr_wakeups.proofs.Rows.{facts_later, facts_begin, facts_ask, facts_answered, facts_check, facts_wake, facts_fire, facts_quit, facts_take}
+use Rattle.lr_wakeups.proofs.Renewals.{facts_renew, facts_renewed, facts_take_renewed}
 use Rattle.lr_wakeups.proofs.ServerSteps.{facts_push, facts_order, facts_post, facts_going_on, facts_cut, facts_at_start}
 use Rattle.lr_machine.specs.declared.event.Event.{Event}
-use Rattle.lr_machine.specs.declared.event.Event.TheVariants.{Begin, Ask, Exec, Take, Check, Wake, Fire, Quit, Sub, Push as push, Tick, Force, Cut, Show}
+use Rattle.lr_machine.specs.declared.event.Event.TheVariants.{Begin, Ask, Exec, Take, Check, Wake, Fire, Quit, Sub, Push as push, Tick, RenewAsk, RenewExec, RenewTake, Force, Cut, Show}
 use Rattle.lr_machine.specs.Clients.{client_id, command_connection, subscription_connection, operator, operator_connection, caller_of, client_caller}
 use Rattle.lr_machine.specs.Sound.{IsInOrder, IsHeard, AreConnected}
 use Rattle.lr_machine.specs.Within.{IsClient, IsWithin}
-use Rattle.lr_machine.specs.World.{World, first_state, first_world, state_of, connection_of, force_of, next_row, next_step, with_entry, cut_among, with_cut, clients_dropped, dropped_at, with_call, answered_in, next_exec, next_order, next_item, next}
+use Rattle.lr_machine.specs.World.{World, first_state, first_world, state_of, connection_of, force_of, next_row, next_step, with_entry, cut_among, with_cut, clients_dropped, dropped_at, with_call, answered_in, next_exec, hold_key, renewal_for, renewed_in, next_renewal, next_order, next_item, next}
 use Rattle.lr_machine_laws.proofs.Connections.{overrun-heard, AreConnected-after_post}
-use Rattle.lr_machine_laws.proofs.Worlds.{IsInOrder-answered, IsInOrder-first_world, IsInOrder-next}
+use Rattle.lr_machine_laws.proofs.Worlds.{IsInOrder-answered, IsInOrder-renewed, IsInOrder-first_world, IsInOrder-next}
 use Rattle.lr_machine_wakeups.specs.WorldFacts.{is_shared, peak_for, peak_of, left_of, told_of, present_of, AskedWith, AreAsked, HaveFacts}
 use Rattle.lr_machine_wakeups.proofs.Answers.{never, asked-is, answered-in_time}
 use Rattle.lr_machine_wakeups.proofs.FairAnswers.{turn_of, answered-queued}
-use Rattle.lr_machine_wakeups.proofs.OwnCalls.{caller-unblocked, operator-unblocked}
+use Rattle.lr_machine_wakeups.proofs.OwnCalls.{caller-unblocked, operator-unblocked, renewal-unblocked}
 use Rattle.lr_machine_wakeups.proofs.QueueHistory.{places-stay}
 use Rattle.lr_machine_wakeups.proofs.Answered.{answered-waiting}
-use Rattle.lr_machine_wakeups.proofs.Asked.{AskedAfter, ClientAsked, asked-later, asked-client_row, asked-begin, asked-ask, asked-take, asked-check, asked-wake, asked-fire, asked-quit, asked-pushed}
+use Rattle.lr_machine_wakeups.proofs.Asked.{AskedAfter, ClientAsked, asked-later, asked-client_row, asked-begin, asked-ask, asked-take, asked-check, asked-wake, asked-fire, asked-quit, asked-pushed, asked-renew, asked-take_renewed}
 use Rattle.lr_machine_wakeups.proofs.Deadlines.{quiet_peak, quiet-more}
 use Rattle.lr_machine_wakeups.proofs.Entries.{state-entry, objects-cut, peak-entry, peak-cut, left-entry, left-cut, told-entry, told-cut, connection-cut}
 use Rattle.lr_machine_wakeups.proofs.Posts.{NamesOwnerIfFair, post-names_owner}
@@ -277,13 +281,14 @@ not-overrun post board clients connected d within apart =
         (sym ((AreConnected-after_post post board clients connected).each d within left).kept
         ∙ overrun-drops post (board (subscription_connection d)) e))
 
--- the owner of a channel makes a call: nobody was refused there, so the facts don't speak of it
+-- the owner of a channel makes a call about its place: nobody was refused there, so the facts don't
+-- speak of it
 facts-turn : (n : ℕ) (world : World) (op : Op) (client : Client) (connection : Connection)
-    → NobodyIsBlocked (λ q. is_own_call q op) client
+    → NobodyIsBlocked (λ q. leaves_place q op) client
     → Facts n (present_of world) client connection → Facts n (turn_of world op) client connection
 facts-turn n world op client connection nobody facts =
     facts_going_on n (present_of world) client connection facts (turn_of world op)
-    (λ q. is_own_call q op)
+    (λ q. leaves_place q op)
     (time-goes_on (state_of world).objects world.moment world.moment (peak_of world)
     (omega arith) (left_of world) (turn_of world op).left (told_of world) (turn_of world op).told)
     (record {
@@ -423,11 +428,11 @@ kept-exec n world c t client thread order kept (Some asking) e false =
         (world.clients c)
 
     -- nobody was refused on the thread's own channel
-    nobody : (d : ℕ) → IsClient d → NobodyIsBlocked (λ q. is_own_call q asking.op) (world.clients d)
+    nobody : (d : ℕ) → IsClient d → NobodyIsBlocked (λ q. leaves_place q asking.op) (world.clients d)
     nobody d within = by (waiter_in (world.clients c) t) refl
       where
         by : (found : Option Waiter) → waiter_in (world.clients c) t ≡ found
-            → NobodyIsBlocked (λ q. is_own_call q asking.op) (world.clients d)
+            → NobodyIsBlocked (λ q. leaves_place q asking.op) (world.clients d)
         by None was =
             absurd
             (never asking
@@ -475,6 +480,50 @@ kept-exec n world c t client thread order kept (Some asking) e false =
         subst (λ k. AreAsked world.moment (client_id k) answered.session) (eqb-true c d f)
         (record { own = (kept.asked c).own; each = (kept.asked c).each })
     asked_by d false f = kept.asked d
+
+-- A renewal is about no place, so it is nobody's turn by it.
+kept-renewal : (n : ℕ) (world : World) (c : ℕ) (key : WatchKey) → IsClient c → IsInOrder world
+    → Kept n world → (found : Option Renewal) → (cut : Bool)
+    → Kept n (next_renewal world c key (if cut then None else found))
+kept-renewal n world c key client order kept found true = kept
+kept-renewal n world c key client order kept None false = kept
+kept-renewal n world c key client order kept (Some renewal) false =
+    kept-call n (renewed_in world c key op) (client_caller c) (command_connection c) op
+    (IsInOrder-renewed world c key op order)
+    (λ d within. turned d within (c == d) refl) (λ d. asked_by d (c == d) refl)
+  where
+    op : Op
+    op = renewal_for world c key
+
+    reply : Reply
+    reply = reply_of (state_of world).objects world.moment (renewal_for world c key)
+
+    renewed : Client
+    renewed = with_renewed key (Some reply) (world.clients c)
+
+    before : (d : ℕ) → IsClient d
+        → Facts n (turn_of world op) (world.clients d) (connection_of world d)
+    before d within =
+        facts-turn n world op (world.clients d) (connection_of world d)
+        (renewal-unblocked key (world.clients c).session.watchdog.lease (world.clients d))
+        (kept.facts d within)
+
+    turned : (d : ℕ) → IsClient d → (same : Bool) → (c == d) ≡ same
+        → Facts n (turn_of world op) (if same then renewed else world.clients d)
+        (connection_of world d)
+    turned d within true e =
+        subst (λ k. Facts n (turn_of world op) renewed (connection_of world k)) (eqb-true c d e)
+        (facts_renewed n (turn_of world op) (world.clients c) (connection_of world c)
+        (before c client) key (Some reply))
+    turned d within false e = before d within
+
+    asked_by : (d : ℕ) (same : Bool) → (c == d) ≡ same
+        → AreAsked world.moment (client_id d)
+        (if same then renewed else world.clients d).session
+    asked_by d true e =
+        subst (λ k. AreAsked world.moment (client_id k) renewed.session) (eqb-true c d e)
+        (kept.asked c)
+    asked_by d false e = kept.asked d
 
 -- Orders and items.
 
@@ -566,10 +615,7 @@ kept-order n world c order client first kept subscribe room e =
     order first))
   where
     taken : Client
-    taken = record {
-      session = order_taken (world.clients c).session;
-      replies = (world.clients c).replies;
-    }
+    taken = record (world.clients c) { session = order_taken (world.clients c).session }
 
     by : (subscribe room : Bool)
         → Facts n (present_of world) taken
@@ -614,10 +660,7 @@ kept-next_item n world c few client kept found e true = kept-later n world kept
 kept-next_item n world c few client kept None e false = kept-later n world kept
 kept-next_item n world c few client kept (Some item) e false =
     kept-hearing (suc n) world c
-    (record {
-      session = pushed item (world.clients c).session;
-      replies = (world.clients c).replies;
-    })
+    (record (world.clients c) { session = pushed item (world.clients c).session })
     (connection_after_drain 1 (connection_of world c))
     (entry_of world.moment (client_caller c) (subscription_connection c) (Drain 1)) client
     (facts_push n (present_of world) (world.clients c) (connection_of world c) (kept.facts c client)
@@ -731,6 +774,25 @@ kept-event n world event few within order kept = by event within
             ((world.clients c).session.waiters thread) (omega arith) ((kept.asked c).each thread);
       };
     }
+    by (RenewAsk c t kind name) inside =
+        kept-step n world c (renew_row (hold_key c t kind name) world.moment)
+        (facts_renew (suc n) (present_of world) (world.clients c) (connection_of world c)
+        (later c inside.0) (hold_key c t kind name) world.moment)
+        (asked-renew world.moment (client_id c) (hold_key c t kind name) world.moment
+        (world.clients c).session (kept.asked c))
+        kept
+    by (RenewExec c t kind name) inside =
+        kept-later n (next world (RenewExec c t kind name))
+        (kept-renewal n world c (hold_key c t kind name) inside.0 order kept
+        (renewing_of (world.clients c) (hold_key c t kind name))
+        (world.clients c).session.is_cut)
+    by (RenewTake c t kind name) inside =
+        kept-row n world c (take_renewed (hold_key c t kind name) (world.clients c))
+        (facts_take_renewed (suc n) (present_of world) (world.clients c) (connection_of world c)
+        (later c inside.0) (hold_key c t kind name))
+        (asked-take_renewed world.moment (client_id c) (hold_key c t kind name)
+        (world.clients c) (kept.asked c))
+        kept
     by (Force name) inside =
         kept-later n (next world (Force name))
         (kept-call n world operator operator_connection (force_of name) order

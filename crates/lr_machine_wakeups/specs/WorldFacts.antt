@@ -33,7 +33,8 @@ peak_of world channel =
     peak_for (is_shared channel)
     (peak_after channel.kind channel.name first_state world.entries 0)
 
--- when the place goes stale that the last call of a channel's owner left, as that history tells it
+-- when the place goes stale that the last try, unlock or leave of a channel's owner left, as that
+-- history tells it
 abbrev pub left_of : World → ChannelOf → Option ℕ
 left_of world channel = place_after channel first_state world.entries None
 
@@ -81,8 +82,8 @@ pub record AreAsked (moment : ℕ) (id : List ℕ) (session : Session) : Type 0 
   pub each : (thread : ℕ)
       → AskedWith moment (record { client = id; thread = thread }) (session.waiters thread)
 
--- A place that the last call of a channel's owner left is in the queue as long as it isn't stale:
--- no other takes it.
+-- A place that the last try, unlock or leave of a channel's owner left is in the queue as long as it
+-- isn't stale: no other takes it, and no renewal does.
 abbrev pub PlaceStays : World → ChannelOf → Type 0
 PlaceStays world channel =
     (owner : ThreadOfClient) (stale : ℕ) → is_fair channel.kind ≡ true

@@ -9,24 +9,39 @@ use Rattle.lr_objects.specs.declared.form.Arguments.{Arguments}
 use Rattle.lr_objects.specs.declared.form.Arguments.TheVariants as arguments
 use Rattle.lr_objects.specs.declared.kinds.Function.{Function}
 use Rattle.lr_objects.specs.declared.want.Lease.{Lease}
+use Rattle.lr_objects.specs.declared.want.Lease.TheVariants as leases
 use Rattle.lr_objects.specs.declared.want.Mode.{Mode}
 use Rattle.lr_objects.specs.declared.want.Mode.TheVariants as modes
 use Rattle.lr_objects.specs.declared.want.Want.{Want}
 use Rattle.lr_objects.specs.Function.{arguments_of}
 use Rattle.lr_objects.specs.Want.{mode_word, lease_word, argument_words}
 use Rattle.lr_objects.proofs.FunctionLaws.{length-function_word}
+use Rattle.lr_waiting.specs.declared.watch.WatchKind.{WatchKind}
+use Rattle.lr_waiting.specs.declared.watch.WatchKind.TheVariants as watched
 use Rattle.lr_waiting.specs.Begin.{FitsMode}
 use Rattle.lr_machine.specs.declared.event.Event.{Event}
-use Rattle.lr_machine.specs.declared.event.Event.TheVariants.{Begin, Ask, Exec, Take, Check, Wake, Fire, Quit, Sub, Push, Tick, Force, Cut, Show}
+use Rattle.lr_machine.specs.declared.event.Event.TheVariants.{Begin, Ask, Exec, Take, Check, Wake, Fire, Quit, Sub, Push, Tick, RenewAsk, RenewExec, RenewTake, Force, Cut, Show}
 use Rattle.lr_machine.specs.declared.schedule_line.ScheduleLine.TheVariants as kinds
-use Rattle.lr_machine.specs.EventText.{event_text, IsEvent, IsMillis, IsSpelled, LeaseFits, NumberFits, IdFits}
+use Rattle.lr_machine.specs.EventText.{event_text, watch_word, IsEvent, IsLease, IsMillis, IsSpelled, LeaseFits, NumberFits, IdFits}
 use Rattle.lr_machine.specs.Transcript.{IsLine}
 
 short_number : (n : ℕ) → n < 2 ^ 64 → length (decimal n) ≤ 20
 short_number n lt = (length-decimal n lt).1
 
-short_lease : (lease : Lease) → IsMillis lease → length (lease_word lease) ≤ 20
-short_lease lease is = subst (λ l. length (lease_word l) ≤ 20) (sym is.1) (short_number is.0 is.2)
+short_millis : (lease : Lease) → IsMillis lease → length (lease_word lease) ≤ 20
+short_millis lease is =
+    subst (λ l. length (lease_word l) ≤ 20) (sym is.1) (short_number is.0 is.2)
+
+short_lease : (lease : Lease) → IsLease lease → length (lease_word lease) ≤ 20
+short_lease leases.Watch is = omega arith
+short_lease (leases.For millis) is = short_number millis is
+
+short_kind : (kind : WatchKind) → length (watch_word kind) ≤ 20
+short_kind watched.Lock = omega arith
+short_kind watched.Fair = omega arith
+short_kind watched.Fenced = omega arith
+short_kind watched.Read = omega arith
+short_kind watched.Write = omega arith
 
 short_mode : (mode : Mode) (function : Function) → FitsMode mode function → length (mode_word mode) ≤ 20
 short_mode modes.Once function fits = omega arith
@@ -39,7 +54,7 @@ short_arguments arguments.Lease want lease number id = simp length-append (omega
 short_arguments arguments.Number want lease number id = simp length-append (omega (arith, short_number want.number number))
 short_arguments arguments.Nothing want lease number id = omega arith
 short_arguments arguments.Id want lease number id = simp length-append (omega (arith, length-id_text want.id))
-short_arguments arguments.IdAndLease want lease number id = simp length-append (omega (arith, short_lease want.lease lease, length-id_text want.id))
+short_arguments arguments.IdAndLease want lease number id = simp length-append (omega (arith, short_millis want.lease lease, length-id_text want.id))
 
 pub short_text : (event : Event) → IsEvent event → length (event_text event) ≤ 512
 short_text (Begin c t mode want) is =
@@ -57,6 +72,15 @@ short_text (Quit c t) is = simp length-append (omega (arith, short_number c is.0
 short_text (Sub c) is = simp length-append (omega (arith, short_number c is))
 short_text (Push c) is = simp length-append (omega (arith, short_number c is))
 short_text (Tick moment) is = simp length-append (omega (arith, short_number moment (omega arith)))
+short_text (RenewAsk c t kind name) is =
+    simp length-append
+    (omega (arith, short_number c is.0.0, short_number t is.0.1, short_kind kind, is.1.short))
+short_text (RenewExec c t kind name) is =
+    simp length-append
+    (omega (arith, short_number c is.0.0, short_number t is.0.1, short_kind kind, is.1.short))
+short_text (RenewTake c t kind name) is =
+    simp length-append
+    (omega (arith, short_number c is.0.0, short_number t is.0.1, short_kind kind, is.1.short))
 short_text (Force name) is = simp length-append (omega (arith, is.short))
 short_text (Cut c) is = simp length-append (omega (arith, short_number c is))
 short_text Show is = omega arith

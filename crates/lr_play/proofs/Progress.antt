@@ -10,6 +10,7 @@ use Rattle.lr_machine.specs.Shown.{shown}
 use Rattle.lr_machine.specs.World.{World, first_world, world_after, next}
 use Rattle.lr_machine_laws.proofs.Schedules.{goes_well_throughout}
 use Rattle.lr_machine_wakeups.proofs.Schedules.{none_lost_throughout}
+use Rattle.lr_machine_renewals.proofs.Schedules.{renewed_throughout}
 use Rattle.lr_play.specs.Ends.{lines_with_ends, shown_of, IsRun, RanThrough, StoppedAt, BrokeOff, WereRead, ShowsEvents, ShowsRefusal, WrittenInPart}
 use Rattle.lr_play.specs.Progress.{Progress, text_of}
 use Rattle.lr_play.proofs.Events.{AreLinesOf-push, AreLinesOf-length, AreLinesOf-few, AreLinesOf-within, world_after-push, transcript-push}
@@ -23,6 +24,7 @@ is_run lines events are =
       texts = are;
       well = goes_well_throughout events within;
       awake = none_lost_throughout events within (omega (arith, few));
+      renews = renewed_throughout events within (omega (arith, few));
     }
 
 lines_with_ends-append : (xs ys : List (List ℕ)) → lines_with_ends (xs ++ ys) ≡ lines_with_ends xs ++ lines_with_ends ys

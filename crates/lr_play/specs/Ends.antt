@@ -6,6 +6,7 @@ use Rattle.lr_outside.specs.declared.status.Status.TheVariants.{Done, Usage, Rea
 use Rattle.lr_machine.specs.declared.event.Event.{Event}
 use Rattle.lr_machine.specs.declared.schedule_line.ScheduleLine.{ScheduleLine}
 use Rattle.lr_machine.specs.declared.schedule_line.ScheduleLine.TheVariants as kinds
+use Rattle.lr_machine.specs.Renewals.{RenewsInTime}
 use Rattle.lr_machine.specs.Sound.{GoesWellThroughout}
 use Rattle.lr_machine.specs.Transcript.{IsLine, AreLinesOf, transcript, bad_line, too_many_line}
 use Rattle.lr_machine.specs.World.{first_world}
@@ -23,12 +24,13 @@ lines_with_ends lines = flat_map (λ line. line ++ 10 ∷ []) lines
 abbrev pub shown_of : List Event → List ℕ
 shown_of events = transcript first_world 1 events
 
--- The lines are the texts of the events of the run. After each of them it went well, and no wakeup
--- was lost.
+-- The lines are the texts of the events of the run. After each of them it went well, no wakeup was
+-- lost, and each watched hold that is live falls due in time.
 pub record IsRun (lines : List (List ℕ)) (events : List Event) : Type 0 where
   pub texts : AreLinesOf 1 lines events
   pub well : GoesWellThroughout events
   pub awake : Throughout (λ n world. NoWakeupIsLost world) events
+  pub renews : Throughout (λ n world. RenewsInTime world) events
 
 -- The whole schedule was read, each line of it is an event, and all that they show was written.
 pub record RanThrough (all rest before held : List ℕ) : Type 0 where

@@ -3,6 +3,7 @@ ghost use Rattle.std.specs.List.{AllByRecursion};
 ghost use Rattle.lr_outside.specs.Lines.{lines_of};
 ghost use Rattle.lr_outside.specs.Turns.{CountsFaults, Rose};
 ghost use Rattle.lr_machine.specs.declared.event.Event.{Event};
+ghost use Rattle.lr_machine.specs.Renewals.{RenewsInTime};
 ghost use Rattle.lr_machine.specs.Sound.{GoesWell};
 ghost use Rattle.lr_machine.specs.Transcript.{AreLinesOf};
 ghost use Rattle.lr_machine.specs.Within.{IsWithin};
@@ -34,6 +35,10 @@ use std::alloc::Global;
 /// has come since it asked, or its own timer comes no later than the peak of a read-write lock, or than
 /// now where it waits for a permit. No fairness and no waiting time is claimed, nor that the event
 /// comes that wakes the thread.
+///
+/// And where a client that isn't cut off watches a hold that is live, its renewal falls due two
+/// thirds of the watchdog's lease before the hold ends, or earlier. That the renewal is asked for
+/// then, and executed in time, is up to the schedule.
 pub fn play_top<S: Source, K: Sink>(
     alloc: Global,
     words: &[Text],
@@ -72,6 +77,9 @@ pub fn play_top<S: Source, K: Sink>(
     // And no wakeup is lost: what stands for a thread that sleeps is never nothing, and no timer that
     // is later than the peak of its lock, or than now where it waits for a permit.
     ensures awake { ThroughoutEverySchedule (λ n world. NoWakeupIsLost world) }
+
+    // And renewals are due in time.
+    ensures renews { ThroughoutEverySchedule (λ n world. RenewsInTime world) }
 {
     if !is_play(words) {
         return Status::Usage;

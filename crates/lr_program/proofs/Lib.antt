@@ -1,2 +1,3 @@
+pub mod DrillLaws
 pub mod RaceLaws
 pub mod RecentLaws

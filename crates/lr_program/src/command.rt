@@ -1,7 +1,8 @@
 // What the words of the command line ask for.
 ghost use Rattle.std.specs.Prelude.{◌≡◌, ◌↔◌, ℕ, [], ◌∷◌, IsTrue, IsNone, IfSome};
-ghost use Rattle.lr_program.specs.Commands.{IsHelp, IsVersion, IsRaceOf, AreNoRace};
+ghost use Rattle.lr_program.specs.Commands.{IsHelp, IsVersion, IsRaceOf, AreNoRace, IsDrillOf, AreNoDrill};
 
+use crate::drill::read_drill;
 use crate::race::read_race;
 use lr_text::Text;
 
@@ -19,6 +20,13 @@ pub enum Command {
         /// How many calls each makes.
         calls: u32,
     },
+    /// Events that are drawn from a number.
+    Drill {
+        /// The number.
+        number: u64,
+        /// How many events there are.
+        events: u32,
+    },
     /// Anything else: one of the other commands, or a fault.
     Run,
 }
@@ -29,6 +37,8 @@ pub fn command_of(words: &[Text]) -> Command
     ensures version { (result ≡ Command.Version) ↔ IsVersion words.now }
     ensures race { (threads calls : ℕ)
         → (result ≡ Command.Race threads calls) ↔ IsRaceOf words.now threads calls }
+    ensures drill { (number events : ℕ)
+        → (result ≡ Command.Drill number events) ↔ IsDrillOf words.now number events }
 {
     if is_word(words, b"--help") {
         Command::Help
@@ -36,6 +46,8 @@ pub fn command_of(words: &[Text]) -> Command
         Command::Version
     } else if let Some((threads, calls)) = race_of(words) {
         Command::Race { threads, calls }
+    } else if let Some((number, events)) = drill_of(words) {
+        Command::Drill { number, events }
     } else {
         Command::Run
     }
@@ -64,6 +76,17 @@ fn race_of(words: &[Text]) -> Option<(u32, u32)>
 {
     match words {
         [first, behind @ ..] if has_bytes(first, b"race") => read_race(behind).ok(),
+        _ => None,
+    }
+}
+
+// The number and how many events are drawn from it, where the words ask for a drill.
+fn drill_of(words: &[Text]) -> Option<(u64, u32)>
+    ensures some { IfSome result (λ drill. IsDrillOf words.now drill.0 drill.1) }
+    ensures none { IsNone result → AreNoDrill words.now }
+{
+    match words {
+        [first, behind @ ..] if has_bytes(first, b"drill") => read_drill(behind).ok(),
         _ => None,
     }
 }

@@ -4,8 +4,11 @@ ghost use Rattle.lr_schedule.specs.Explanation.{explanation};
 ghost use Rattle.lr_program.specs.Recent.{pieces_of};
 ghost use Rattle.lr_program.specs.Remembering.{recent_of, Remembers};
 
-use crate::race::{MOST_CALLS, MOST_THREADS, RaceFault, RaceNumber, read_race};
+use crate::drill::read_drill;
+use crate::numbers::{NumbersFault, Place};
+use crate::race::{MOST_CALLS, MOST_THREADS, read_race};
 use crate::remembering_source::RememberingSource;
+use lr_limits::MOST_EVENTS;
 use lr_outside::{Source, Status};
 use lr_schedule::explain;
 use lr_text::Text;
@@ -15,11 +18,18 @@ use std::{fmt, str};
 /// The commands that take no further word.
 const COMMANDS: [&[u8]; 3] = [b"play", b"--help", b"--version"];
 
-/// The command that takes two numbers.
+/// The commands that take two numbers.
 const RACE: &[u8] = b"race";
 
+const DRILL: &[u8] = b"drill";
+
+/// How these are written.
+const RACE_FORM: &str = "lockd race THREADS CALLS";
+
+const DRILL_FORM: &str = "lockd drill NUMBER EVENTS";
+
 /// The commands that aren't there yet.
-const LATER: [&[u8]; 4] = [b"serve", b"shell", b"audit", b"drill"];
+const LATER: [&[u8]; 3] = [b"serve", b"shell", b"audit"];
 
 /// What is wrong with the words of a command line.
 #[derive(Clone, Copy)]
@@ -32,11 +42,10 @@ pub enum WordsFault<'a> {
     Later(&'a str),
     /// This word stands behind a command that takes no further word.
     TooMuch(&'a str),
-    /// This number isn't there behind `race`.
-    NoNumber(RaceNumber),
-    /// This word stands behind `race` at the place of the number, and doesn't spell one within its
-    /// limits.
-    BadNumber(RaceNumber, &'a str),
+    /// This number isn't there behind a command that takes it.
+    NoNumber(Place),
+    /// This word stands at the place of the number, and doesn't spell one within its limits.
+    BadNumber(Place, &'a str),
     /// A word isn't UTF-8.
     NotText,
 }
@@ -56,17 +65,19 @@ impl fmt::Display for WordsFault<'_> {
     }
 }
 
-// What it counts, where it stands on the command line, and its limits.
-impl fmt::Display for RaceNumber {
+// What the number is, the command that it stands behind, and its limits.
+impl fmt::Display for Place {
     fn fmt<W: fmt::Write>(&self, f: &mut fmt::Formatter<W>) -> fmt::Result {
-        let (counted, place, least, most) = match self {
-            RaceNumber::Threads => ("threads", "THREADS", 1, MOST_THREADS),
-            RaceNumber::Calls => ("calls", "CALLS", 0, MOST_CALLS),
+        let (what, command, name, least, most) = match self {
+            Place::Threads => ("number of threads", RACE_FORM, "THREADS", 1, MOST_THREADS),
+            Place::Calls => ("number of calls", RACE_FORM, "CALLS", 0, MOST_CALLS),
+            Place::Number => ("number to draw from", DRILL_FORM, "NUMBER", 0, u64::MAX),
+            Place::Events => ("number of events", DRILL_FORM, "EVENTS", 0, MOST_EVENTS),
         };
         write!(
             f,
-            "number of {counted}; the command is lockd race THREADS CALLS, \
-                with {place} from {least} to {most} and no leading zeros"
+            "{what}; the command is {command}, with {name} from {least} to {most} and no leading \
+                zeros"
         )
     }
 }
@@ -79,8 +90,8 @@ pub fn words_fault(words: &[Text]) -> WordsFault<'_> {
     if is_one_of(first, &LATER) {
         return WordsFault::Later(as_str(first));
     }
-    if let Some(fault) = race_fault(first, others) {
-        return fault;
+    if let Some(fault) = numbers_fault(first, others) {
+        return told_fault(fault);
     }
     match others.first() {
         Some(word) if is_one_of(first, &COMMANDS) => WordsFault::TooMuch(as_str(word)),
@@ -88,15 +99,22 @@ pub fn words_fault(words: &[Text]) -> WordsFault<'_> {
     }
 }
 
-// What is wrong with the words of a race: `None` where they ask for none.
-fn race_fault<'a>(first: &Text, others: &'a [Text]) -> Option<WordsFault<'a>> {
-    if first.as_slice() != RACE {
-        return None;
+// What is wrong with the words of a race or a drill: `None` where they ask for neither.
+fn numbers_fault<'a>(first: &Text, others: &'a [Text]) -> Option<NumbersFault<'a>> {
+    if first.as_slice() == RACE {
+        return read_race(others).err();
     }
-    match read_race(others).err()? {
-        RaceFault::Missing(number) => Some(WordsFault::NoNumber(number)),
-        RaceFault::Wrong(number, word) => Some(WordsFault::BadNumber(number, as_str(word))),
-        RaceFault::TooMuch(word) => Some(WordsFault::TooMuch(as_str(word))),
+    if first.as_slice() == DRILL {
+        return read_drill(others).err();
+    }
+    None
+}
+
+fn told_fault(fault: NumbersFault<'_>) -> WordsFault<'_> {
+    match fault {
+        NumbersFault::Missing(place) => WordsFault::NoNumber(place),
+        NumbersFault::Wrong(place, word) => WordsFault::BadNumber(place, as_str(word)),
+        NumbersFault::TooMuch(word) => WordsFault::TooMuch(as_str(word)),
     }
 }
 

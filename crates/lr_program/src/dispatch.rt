@@ -1,17 +1,18 @@
 // What the program does for the words of its command line.
-ghost use Rattle.std.specs.Prelude.{◌≡◌, ◌≢◌, ◌⊎◌, ◌↔◌, List, ℕ, Some, false};
+ghost use Rattle.std.specs.Prelude.{◌≡◌, ◌≢◌, ◌≤◌, ◌⊎◌, ◌↔◌, List, ℕ, Some, false};
+ghost use Rattle.lr_limits.specs.Limits.{event_limit};
 ghost use Rattle.lr_outside.specs.Lines.{lines_of};
 ghost use Rattle.lr_outside.specs.Turns.{CountsFaults, Rose};
 ghost use Rattle.lr_machine.specs.declared.event.Event.{Event};
 ghost use Rattle.lr_machine.specs.Transcript.{AreLinesOf};
 ghost use Rattle.lr_play.specs.Ends.{WhereTold, EndsSo, IsPlay, IsEndOfPlay, is_read_fault, is_write_fault};
 ghost use Rattle.lr_drill.specs.Race.{IsRaceSize};
-ghost use Rattle.lr_drill.specs.Ends.{EndsRace};
-ghost use Rattle.lr_program.specs.Commands.{IsHelp, IsVersion, IsRaceOf, AreNoCommand, IsShown};
+ghost use Rattle.lr_drill.specs.Ends.{EndsDrill, EndsRace};
+ghost use Rattle.lr_program.specs.Commands.{IsHelp, IsVersion, IsRaceOf, IsDrillOf, AreNoCommand, IsShown};
 
 use crate::command::{Command, command_of};
 use crate::texts::{HELP, VERSION};
-use lr_drill::race_top;
+use lr_drill::{drill_top, race_top};
 use lr_outside::{Sink, Source, Status, write_whole};
 use lr_play::play_top;
 use lr_text::Text;
@@ -42,6 +43,10 @@ pub fn obey<R: Threads + Wait + Sync, S: Source, K: Sink>(
     ensures race { (threads calls : ℕ) → IsRaceOf words.now threads calls
         → EndsRace threads calls (K.held sink.old) (K.held sink.new) result }
 
+    // What is known at each end of a drill.
+    ensures drill { (number events : ℕ) → IsDrillOf words.now number events
+        → EndsDrill number events (K.held sink.old) (K.held sink.new) result }
+
     // Other words are a usage fault: nothing is read or written.
     ensures usage { (result ≡ Status.Usage) ↔ AreNoCommand words.now }
     ensures untouched { result ≡ Status.Usage → (source.new ≡ source.old) × (sink.new ≡ sink.old) }
@@ -66,6 +71,7 @@ pub fn obey<R: Threads + Wait + Sync, S: Source, K: Sink>(
         Command::Help => show(sink, HELP),
         Command::Version => show(sink, VERSION),
         Command::Race { threads, calls } => race(rt, alloc, threads, calls, sink),
+        Command::Drill { number, events } => drill(alloc, number, events, sink),
         Command::Run => play_top(alloc, words, source, sink),
     }
 }
@@ -86,6 +92,18 @@ fn race<R: Threads + Wait + Sync, K: Sink>(
     ensures no_other { IsEndOfPlay result }
 {
     race_top(rt, alloc, threads, calls, sink)
+}
+
+// Runs a drill.
+fn drill<K: Sink>(alloc: Global, number: u64, events: u32, sink: &mut K) -> Status
+    requires { events ≤ event_limit }
+    ensures ends { EndsDrill number events (K.held sink.old) (K.held sink.new) result }
+    ensures counts { CountsFaults (K.faults sink.old) (K.faults sink.new) (is_write_fault result) }
+    ensures not_read { is_read_fault result ≡ false }
+    ensures not_usage { result ≢ Status.Usage }
+    ensures no_other { IsEndOfPlay result }
+{
+    drill_top(alloc, number, events, sink)
 }
 
 // Writes a text, and tells whether that went well.

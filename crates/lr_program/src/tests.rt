@@ -119,8 +119,8 @@ fn races_have_their_ends(rt: HostRuntime) -> Result<(), Fail> {
     Ok(())
 }
 
-// Whether these words ask for no race, and this is said of them.
-fn is_no_race(alloc: Global, words: &[&str], said: &str) -> Result<bool, AllocError> {
+// Whether these words are no command, and this is said of them.
+fn is_refused(alloc: Global, words: &[&str], said: &str) -> Result<bool, AllocError> {
     let texts = texts_of(alloc, words)?;
     let is_run = command_of(texts.as_slice()) == Command::Run;
     Ok(is_run && is_said(alloc, words, said)?)
@@ -132,7 +132,7 @@ fn is_no_threads(alloc: Global, words: &[&str], fault: &str) -> Result<bool, All
     let said = format!(in alloc;
         "lockd: {fault} number of threads; the command is {form}; lockd --help tells more"
     )?;
-    is_no_race(alloc, words, said.as_str())
+    is_refused(alloc, words, said.as_str())
 }
 
 // Whether it is said that this is no number of calls, and what is.
@@ -141,7 +141,7 @@ fn is_no_calls(alloc: Global, words: &[&str], fault: &str) -> Result<bool, Alloc
     let said = format!(in alloc;
         "lockd: {fault} number of calls; the command is {form}; lockd --help tells more"
     )?;
-    is_no_race(alloc, words, said.as_str())
+    is_refused(alloc, words, said.as_str())
 }
 
 fn is_race(alloc: Global, words: &[&str], threads: u32, calls: u32) -> Result<bool, AllocError> {
@@ -169,7 +169,7 @@ fn other_calls_are_refused(alloc: Global) -> Result<bool, AllocError> {
     let word = is_no_calls(alloc, &["race", "2", "x"], "\"x\" is no")?;
     let many = is_no_calls(alloc, &["race", "1", "10001"], "\"10001\" is no")?;
     let text = "lockd: \"text\" is too much; lockd --help tells more";
-    let more = is_no_race(alloc, &["race", "2", "3", "text"], text)?;
+    let more = is_refused(alloc, &["race", "2", "3", "text"], text)?;
     Ok(missing && word && many && more)
 }
 
@@ -178,6 +178,92 @@ fn words_of_races_are_read(rt: HostRuntime) -> Result<(), Fail> {
     let alloc = rt.alloc();
     let refused = other_threads_are_refused(alloc)? && other_calls_are_refused(alloc)?;
     assert!(rt; refused && races_are_read(alloc)?);
+    Ok(())
+}
+
+// Whether these words run a drill that writes this.
+fn drills<R: AllocGlobal + Threads + Wait + Sync>(
+    rt: &R,
+    words: &[&str],
+    written: &str,
+) -> Result<bool, AllocError> {
+    ends(rt, words, TICK, &[], Status::Done, written.as_bytes())
+}
+
+fn drills_end<R: AllocGlobal + Threads + Wait + Sync>(rt: &R) -> Result<bool, AllocError> {
+    let none = "events 0\nno 0\nentries 0\nmoment 0\nasleep 0\n";
+    let idle = drills(rt, &["drill", "18446744073709551615", "0"], none)?;
+    let failed = ends(
+        rt,
+        &["drill", "7", "0"],
+        TICK,
+        &[1],
+        Status::WriteFault,
+        b"",
+    )?;
+    Ok(idle && failed)
+}
+
+#[test]
+fn drills_have_their_ends(rt: HostRuntime) -> Result<(), Fail> {
+    assert!(rt; drills_end(&rt)?);
+    Ok(())
+}
+
+// Whether it is said that this is no number to draw from, and what is.
+fn is_no_number(alloc: Global, words: &[&str], fault: &str) -> Result<bool, AllocError> {
+    let form = "lockd drill NUMBER EVENTS, with NUMBER from 0 to 18446744073709551615";
+    let said = format!(in alloc;
+        "lockd: {fault} number to draw from; the command is {form} and no leading zeros; \
+            lockd --help tells more"
+    )?;
+    is_refused(alloc, words, said.as_str())
+}
+
+// Whether it is said that this is no number of events, and what is.
+fn is_no_events(alloc: Global, words: &[&str], fault: &str) -> Result<bool, AllocError> {
+    let form = "lockd drill NUMBER EVENTS, with EVENTS from 0 to 1000000 and no leading zeros";
+    let said = format!(in alloc;
+        "lockd: {fault} number of events; the command is {form}; lockd --help tells more"
+    )?;
+    is_refused(alloc, words, said.as_str())
+}
+
+fn is_drill(alloc: Global, words: &[&str], number: u64, events: u32) -> Result<bool, AllocError> {
+    let texts = texts_of(alloc, words)?;
+    Ok(command_of(texts.as_slice()) == Command::Drill { number, events })
+}
+
+fn drills_are_read(alloc: Global) -> Result<bool, AllocError> {
+    let small = is_drill(alloc, &["drill", "0", "0"], 0, 0)?;
+    let greatest = ["drill", "18446744073709551615", "1000000"];
+    let large = is_drill(alloc, &greatest, u64::MAX, 1_000_000)?;
+    Ok(small && large)
+}
+
+fn other_numbers_are_refused(alloc: Global) -> Result<bool, AllocError> {
+    let missing = is_no_number(alloc, &["drill"], "there is no")?;
+    let word = is_no_number(alloc, &["drill", "x", "1"], "\"x\" is no")?;
+    let spelled = is_no_number(alloc, &["drill", "07", "1"], "\"07\" is no")?;
+    let large = ["drill", "18446744073709551616", "1"];
+    let more = is_no_number(alloc, &large, "\"18446744073709551616\" is no")?;
+    Ok(missing && word && spelled && more)
+}
+
+fn other_events_are_refused(alloc: Global) -> Result<bool, AllocError> {
+    let missing = is_no_events(alloc, &["drill", "7"], "there is no")?;
+    let sign = is_no_events(alloc, &["drill", "7", "-1"], "\"-1\" is no")?;
+    let many = is_no_events(alloc, &["drill", "7", "1000001"], "\"1000001\" is no")?;
+    let text = "lockd: \"text\" is too much; lockd --help tells more";
+    let more = is_refused(alloc, &["drill", "7", "1", "text"], text)?;
+    Ok(missing && sign && many && more)
+}
+
+#[test]
+fn words_of_drills_are_read(rt: HostRuntime) -> Result<(), Fail> {
+    let alloc = rt.alloc();
+    let refused = other_numbers_are_refused(alloc)? && other_events_are_refused(alloc)?;
+    assert!(rt; refused && drills_are_read(alloc)?);
     Ok(())
 }
 

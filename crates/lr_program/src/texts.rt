@@ -15,7 +15,12 @@ usage: lockd play|serve|shell|audit|drill|race
              so many threads, 1 to 64, call one server at once, and each makes so many calls, 0 to
              10000: it takes and gives back four locks in turn. Then the summary is written: the
              threads, the entries of the server's history, and those of each caller.
-  serve, shell, audit, drill
+  drill NUMBER EVENTS
+             so many events, 0 to 1000000, are drawn from a number, 0 to 18446744073709551615, and
+             run as a schedule, on two locks. The same number draws the same events. Then the
+             summary is written: the events, those that did not apply, the entries of the server's
+             history, the moment, and the threads that sleep.
+  serve, shell, audit
              are not there yet.
   --help     writes this text.
   --version  writes the program's name and version.
@@ -98,9 +103,9 @@ today:
   latch_count NAME          tells its count.
 
 A line that is no event ends the run, and standard error says why. Exit status: 0 where the
-schedule or the race was run to its end, 2 where the words are no command, 3 where a read failed, 4
-where a write failed, 5 at a line that is no event, 6 where memory ran out, 7 at a line outside the
-limits.
+schedule, the race or the drill was run to its end, 2 where the words are no command, 3 where a read
+failed, 4 where a write failed, 5 at a line that is no event, 6 where memory ran out, 7 at a line
+outside the limits.
 
 Example, to be pasted at the top of the repository: client 1 takes the lock a for 30 seconds, and
 client 2 finds it busy.
@@ -118,4 +123,8 @@ three wait in the queue of a fair lock:
 A race of two threads that make three calls each:
 
   ./lockd race 2 3
+
+A drill of 2920 events, after which two threads sleep:
+
+  ./lockd drill 7 2920
 ";

@@ -1,5 +1,5 @@
 -- Words give back what a function is given, the want of it, and the mode of a request.
-use Rattle.std.proofs.Common.{◌≡◌, ◌≢◌, ℕ, ◌<◌, ◌^◌, true, false, if◌then◌else◌, List, [], ◌++◌, get_or, replicate, unwrap_or, codes, decimal, refl, sym, ap, ◌∙◌, arith, true≢false}
+use Rattle.std.proofs.Common.{◌≡◌, ◌≢◌, ℕ, ◌<◌, ◌^◌, true, false, if◌then◌else◌, List, [], ◌++◌, get_or, replicate, unwrap_or, codes, decimal, refl, sym, ap, subst, ◌∙◌, arith, true≢false}
 use Rattle.std.proofs.lemmas.Bool.{cond_both}
 use Rattle.std.proofs.lemmas.Slice.Eq.{bytes_eq-Decides}
 use Rattle.std.specs.Str.{bytes_eq}
@@ -27,7 +27,7 @@ use Rattle.lr_objects.specs.Function.{function_word, arguments_of}
 use Rattle.lr_objects.specs.Want.{mode_word, lease_word, argument_words}
 use Rattle.lr_objects.proofs.FunctionLaws.{IsWordTable-function_word}
 use Rattle.lr_waiting.specs.Begin.{FitsMode}
-use Rattle.lr_machine.specs.EventText.{IsMillis, LeaseFits, NumberFits, IdFits, IsSpelled}
+use Rattle.lr_machine.specs.EventText.{IsMillis, IsLease, LeaseFits, NumberFits, IdFits, IsSpelled}
 use Rattle.lr_schedule.specs.Spelled.{IsMode}
 
 -- the number of a word
@@ -47,10 +47,12 @@ id_of-id_text : (id : List ℕ) → IsId id → id_of (id_text id) ≡ id
 unfolding id_of
 id_of-id_text id h = sym (ap (λ o. unwrap_or o []) (parsed-id_text id h))
 
--- a decimal has no letter `o`, unlike the words of the other modes
-no_decimal : (n : ℕ) (word : List ℕ) → n < 2 ^ 64 → lacks 111 word ≡ false → decimal n ≢ word
-no_decimal n word small has is =
-    true≢false (sym (decimal-lacks 111 n (λ r. omega arith) small) ∙ ap (lacks 111) is ∙ has)
+-- a decimal has no letter, unlike a word
+no_decimal : (n : ℕ) (word : List ℕ) (letter : ℕ) → 57 < letter → n < 2 ^ 64
+    → lacks letter word ≡ false → decimal n ≢ word
+no_decimal n word letter above small has is =
+    let lacking = decimal-lacks letter n (λ r. omega arith) small in
+    true≢false (sym lacking ∙ ap (lacks letter) is ∙ has)
 
 -- the mode of a word
 pub mode_of : List ℕ → Mode
@@ -68,7 +70,8 @@ mode_of-word (modes.For millis) h =
     let word = decimal millis in
     let is_mode : Mode → Type 0 = λ m. m ≡ modes.For millis in
     let not : (other : List ℕ) → lacks 111 other ≡ false → bytes_eq word other ≡ true → ⊥ =
-    λ other has same. no_decimal millis other small has ((bytes_eq-Decides word other).0 same) in
+    λ other has same.
+    no_decimal millis other 111 (omega arith) small has ((bytes_eq-Decides word other).0 same) in
     cond_both (bytes_eq word (codes "once")) modes.Once
     (if bytes_eq word (codes "long") then modes.Long else modes.For (value word)) is_mode
     (λ same. absurd (not (codes "once") refl same))
@@ -95,11 +98,24 @@ unfolding function_of
 function_of-word function = ap (λ o. unwrap_or o (Lock lock.Try)) (IsWordTable-function_word function)
 
 -- the lease of a word
-lease_of-word : (lease : Lease) → IsMillis lease
-    → leases.For (value (lease_word lease)) ≡ lease
-lease_of-word lease h =
-    ap (λ l. leases.For (value (lease_word l))) h.1
-    ∙ ap leases.For (value-decimal h.0 h.2) ∙ sym h.1
+lease_of : List ℕ → Lease
+lease_of word = if bytes_eq word (codes "watch") then leases.Watch else leases.For (value word)
+
+lease_of-word : (lease : Lease) → IsLease lease → lease_of (lease_word lease) ≡ lease
+unfolding lease_of
+lease_of-word leases.Watch h = refl
+lease_of-word (leases.For millis) small =
+    let word = decimal millis in
+    let watched = codes "watch" in
+    cond_both (bytes_eq word watched) leases.Watch (leases.For (value word))
+    (λ l. l ≡ leases.For millis)
+    (λ same. absurd (no_decimal millis watched 97 (omega arith) small refl
+    ((bytes_eq-Decides word watched).0 same)))
+    (λ _. ap leases.For (value-decimal millis small))
+
+-- a lease in milliseconds is one
+pub is_lease_millis : (lease : Lease) → IsMillis lease → IsLease lease
+is_lease_millis lease h = subst IsLease (sym h.1) h.2
 
 -- the word at a place
 abbrev pub at : List (List ℕ) → ℕ → List ℕ
@@ -107,8 +123,8 @@ at words place = get_or words place []
 
 -- what a function is given, from the words that begin with it
 lease_in : Arguments → List (List ℕ) → Lease
-lease_in arguments.Lease words = leases.For (value (at words 0))
-lease_in arguments.IdAndLease words = leases.For (value (at words 1))
+lease_in arguments.Lease words = lease_of (at words 0)
+lease_in arguments.IdAndLease words = lease_of (at words 1)
 lease_in _ words = leases.For 0
 
 number_in : Arguments → List (List ℕ) → ℕ
@@ -127,7 +143,8 @@ lease_in-words arguments.Lease want rest h = lease_of-word want.lease h
 lease_in-words arguments.Number want rest h = sym h
 lease_in-words arguments.Nothing want rest h = sym h
 lease_in-words arguments.Id want rest h = sym h
-lease_in-words arguments.IdAndLease want rest h = lease_of-word want.lease h
+lease_in-words arguments.IdAndLease want rest h =
+    lease_of-word want.lease (is_lease_millis want.lease h)
 
 number_in-words : (a : Arguments) (want : Want) (rest : List (List ℕ)) → NumberFits a want.number
     → number_in a (argument_words a want ++ rest) ≡ want.number

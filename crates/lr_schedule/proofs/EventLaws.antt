@@ -3,7 +3,7 @@ use Rattle.std.proofs.Common.{◌≡◌, ℕ, List, [], ◌∷◌, refl, sym, ap
 use Rattle.lr_text.specs.Words.{words_of, joined}
 use Rattle.lr_text.proofs.WordLaws.{words_of-joined}
 use Rattle.lr_machine.specs.declared.event.Event.{Event}
-use Rattle.lr_machine.specs.declared.event.Event.TheVariants.{Begin, Ask, Exec, Take, Check, Wake, Fire, Quit, Sub, Push, Tick, Force, Cut, Show}
+use Rattle.lr_machine.specs.declared.event.Event.TheVariants.{Begin, Ask, Exec, Take, Check, Wake, Fire, Quit, Sub, Push, Tick, RenewAsk, RenewExec, RenewTake, Force, Cut, Show}
 use Rattle.lr_machine.specs.declared.schedule_line.ScheduleLine.{ScheduleLine}
 use Rattle.lr_machine.specs.declared.schedule_line.ScheduleLine.TheVariants as lines
 use Rattle.lr_machine.specs.EventText.{event_text, IsEvent}
@@ -14,6 +14,7 @@ use Rattle.lr_schedule.specs.declared.spelled.Spelled.TheVariants as spelled
 use Rattle.lr_schedule.specs.declared.spelled.Who.{Who}
 use Rattle.lr_schedule.specs.declared.verb.ThreadVerb.TheVariants as thread_verbs
 use Rattle.lr_schedule.specs.declared.verb.ClientVerb.TheVariants as client_verbs
+use Rattle.lr_schedule.specs.declared.verb.RenewVerb.TheVariants as renew_verbs
 use Rattle.lr_schedule.specs.Spelled.{event_of, verb_word, verb_of, more_words, CanSpell}
 use Rattle.lr_schedule.proofs.SpelledLaws.{event_words-of, can_spell, spelled-injective}
 use Rattle.lr_schedule.proofs.WordLaws.{spelled-are_words}
@@ -38,6 +39,12 @@ spelled_of (Quit c t) = (spelled.Thread thread_verbs.Quit (who_of c t), refl)
 spelled_of (Sub c) = (spelled.Client client_verbs.Sub c, refl)
 spelled_of (Push c) = (spelled.Client client_verbs.Push c, refl)
 spelled_of (Tick moment) = (spelled.Tick moment, refl)
+spelled_of (RenewAsk c t kind name) =
+    (spelled.Renew renew_verbs.Ask (who_of c t) kind name, refl)
+spelled_of (RenewExec c t kind name) =
+    (spelled.Renew renew_verbs.Exec (who_of c t) kind name, refl)
+spelled_of (RenewTake c t kind name) =
+    (spelled.Renew renew_verbs.Take (who_of c t) kind name, refl)
 spelled_of (Force name) = (spelled.Force name, refl)
 spelled_of (Cut c) = (spelled.Client client_verbs.Cut c, refl)
 spelled_of Show = (spelled.Show, refl)

@@ -1,4 +1,5 @@
 pub mod VerbLaws
+pub mod KindLaws
 pub mod ArgumentLaws
 pub mod SpelledLaws
 pub mod WordLaws

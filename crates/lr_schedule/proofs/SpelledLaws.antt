@@ -1,10 +1,12 @@
 -- What a line spells, against its event, and given back by its words.
 use Rattle.std.proofs.Common.{◌≡◌, ◌↔◌, ℕ, List, [], ◌∷◌, ◌++◌, length, drop, refl, sym, ap, ◌∙◌, arith, decimal, append-nil, length-append}
+use Rattle.lr_names.specs.Name.{IsName}
 use Rattle.lr_objects.specs.declared.want.Mode.{Mode}
 use Rattle.lr_objects.specs.declared.want.Want.{Want}
 use Rattle.lr_objects.specs.Want.{mode_word, want_words}
+use Rattle.lr_waiting.specs.declared.watch.WatchKind.{WatchKind}
 use Rattle.lr_waiting.specs.Begin.{CanBegin}
-use Rattle.lr_machine.specs.EventText.{event_words, IsNumber, AreNumbers, IsEvent, IsSpelled}
+use Rattle.lr_machine.specs.EventText.{event_words, hold_words, watch_word, IsNumber, AreNumbers, IsEvent, IsSpelled}
 use Rattle.lr_schedule.specs.declared.spelled.Who.{Who}
 use Rattle.lr_schedule.specs.declared.spelled.Spelled.{Spelled}
 use Rattle.lr_schedule.specs.declared.spelled.Spelled.TheVariants as spelled
@@ -12,11 +14,14 @@ use Rattle.lr_schedule.specs.declared.verb.ThreadVerb.{ThreadVerb}
 use Rattle.lr_schedule.specs.declared.verb.ThreadVerb.TheVariants.{Ask}
 use Rattle.lr_schedule.specs.declared.verb.ClientVerb.{ClientVerb}
 use Rattle.lr_schedule.specs.declared.verb.ClientVerb.TheVariants.{Sub}
+use Rattle.lr_schedule.specs.declared.verb.RenewVerb.{RenewVerb}
+use Rattle.lr_schedule.specs.declared.verb.RenewVerb.TheVariants as renew_verbs
 use Rattle.lr_schedule.specs.declared.verb.Verb.{Verb}
 use Rattle.lr_schedule.specs.declared.verb.Verb.TheVariants as verbs
-use Rattle.lr_schedule.specs.Spelled.{thread_word, client_word, thread_event, client_event, event_of, verb_word, verb_of, more_words, CanSpell, Completes}
+use Rattle.lr_schedule.specs.Spelled.{thread_word, client_word, renew_word, thread_event, client_event, renew_event, event_of, verb_word, verb_of, more_words, CanSpell, Completes}
 use Rattle.lr_schedule.proofs.ArgumentLaws.{value, value-decimal, at, mode_of, mode_of-word, is_mode_fitting, function_of, want_in, want_in-words}
 use Rattle.lr_schedule.proofs.VerbLaws.{verb_with, verb_with-verb_word}
+use Rattle.lr_schedule.proofs.KindLaws.{kind_with, kind_with-watch_word}
 
 -- what holds of each event of a thread
 record OfThread (verb : ThreadVerb) (client thread : ℕ) : Type 0 where
@@ -37,12 +42,27 @@ of_client : (verb : ClientVerb) (client : ℕ) → OfClient verb client
 of_client Sub client = record { text = refl; event = (λ h. h, λ h. h) }
 of_client _ client = record { text = refl; event = (λ h. h, λ h. h) }
 
+-- and of each of a renewal
+record OfRenewal (verb : RenewVerb) (client thread : ℕ) (kind : WatchKind) (name : List ℕ) :
+    Type 0 where
+  pub text : event_words (renew_event verb client thread kind name)
+      ≡ renew_word verb ∷ hold_words client thread kind name
+  pub event : IsEvent (renew_event verb client thread kind name)
+      ↔ (AreNumbers client thread × IsName name)
+
+of_renewal : (verb : RenewVerb) (client thread : ℕ) (kind : WatchKind) (name : List ℕ)
+    → OfRenewal verb client thread kind name
+of_renewal renew_verbs.Ask client thread kind name = record { text = refl; event = (λ h. h, λ h. h) }
+of_renewal _ client thread kind name = record { text = refl; event = (λ h. h, λ h. h) }
+
 -- the words of an event are those that spell it
 pub event_words-of : (s : Spelled) → event_words (event_of s) ≡ verb_word (verb_of s) ∷ more_words s
 event_words-of (spelled.Begin who mode want) = refl
 event_words-of (spelled.Thread verb who) = (of_thread verb who.client who.thread).text
 event_words-of (spelled.Client verb client) = (of_client verb client).text
 event_words-of (spelled.Tick moment) = refl
+event_words-of (spelled.Renew verb who kind name) =
+    (of_renewal verb who.client who.thread kind name).text
 event_words-of (spelled.Force name) = refl
 event_words-of spelled.Show = refl
 
@@ -52,6 +72,8 @@ can_spell (spelled.Begin who mode want) = (λ h. h, λ h. h)
 can_spell (spelled.Thread verb who) = (of_thread verb who.client who.thread).event
 can_spell (spelled.Client verb client) = (of_client verb client).event
 can_spell (spelled.Tick moment) = (λ h. h, λ h. h)
+can_spell (spelled.Renew verb who kind name) =
+    (of_renewal verb who.client who.thread kind name).event
 can_spell (spelled.Force name) = (λ h. h, λ h. h)
 can_spell spelled.Show = (λ h. h, λ h. h)
 
@@ -75,6 +97,8 @@ spelled_in verbs.Begin words =
 spelled_in (verbs.Thread verb) words = spelled.Thread verb (who_in words)
 spelled_in (verbs.Client verb) words = spelled.Client verb (value (at words 0))
 spelled_in verbs.Tick words = spelled.Tick (value (at words 0))
+spelled_in (verbs.Renew verb) words =
+    spelled.Renew verb (who_in words) (kind_with (at words 2)) (at words 3)
 spelled_in verbs.Force words = spelled.Force (at words 0)
 spelled_in verbs.Show words = spelled.Show
 
@@ -94,6 +118,10 @@ spelled_in-words (spelled.Thread verb who) rest h =
 spelled_in-words (spelled.Client verb client) rest h =
     ap (λ c. spelled.Client verb c) (value-decimal client h)
 spelled_in-words (spelled.Tick moment) rest h = ap spelled.Tick (value-decimal moment (omega arith))
+spelled_in-words (spelled.Renew verb who kind name) rest h =
+    let read = who_in-words who (watch_word kind ∷ name ∷ rest) h.0 in
+    ap (λ w. spelled.Renew verb w (kind_with (watch_word kind)) name) read
+    ∙ ap (λ k. spelled.Renew verb who k name) (kind_with-watch_word kind)
 spelled_in-words (spelled.Force name) rest h = refl
 spelled_in-words spelled.Show rest h = refl
 
@@ -150,3 +178,25 @@ begins_with words (spelled.Begin who mode want) rest h = record {
   spelled = h.can.2;
 }
 begins_with words _ rest h = let other = h.verb_is in absurd cc
+
+-- words behind a verb of a renewal, by their parts
+pub record RenewalWords (words rest : List (List ℕ)) : Type 0 where
+  pub who : Who
+  pub kind : WatchKind
+  pub name : List ℕ
+  pub text : words
+      ≡ decimal who.client ∷ decimal who.thread ∷ watch_word kind ∷ name ∷ rest
+  pub numbers : AreNumbers who.client who.thread
+  pub named : IsName name
+
+pub renews_with : (verb : RenewVerb) (words : List (List ℕ)) (s : Spelled)
+    (rest : List (List ℕ)) → Completes (verbs.Renew verb) words s rest → RenewalWords words rest
+renews_with verb words (spelled.Renew v who kind name) rest h = record {
+  who = who;
+  kind = kind;
+  name = name;
+  text = h.text;
+  numbers = h.can.0;
+  named = h.can.1;
+}
+renews_with verb words _ rest h = let other = h.verb_is in absurd cc

@@ -6,8 +6,9 @@ use Rattle.lr_text.proofs.WordTableLaws.{IsWordTable, word_of-injective}
 use Rattle.lr_schedule.specs.Spelled.{verb_word}
 use Rattle.lr_schedule.specs.declared.verb.ThreadVerb.TheVariants.{Ask}
 use Rattle.lr_schedule.specs.declared.verb.ClientVerb.TheVariants.{Sub}
+use Rattle.lr_schedule.specs.declared.verb.RenewVerb.TheVariants as renew_verbs
 use Rattle.lr_schedule.specs.declared.verb.Verb.{Verb}
-use Rattle.lr_schedule.specs.declared.verb.Verb.TheVariants.{Begin, Thread, Client}
+use Rattle.lr_schedule.specs.declared.verb.Verb.TheVariants.{Begin, Thread, Client, Renew}
 use Rattle.lr_schedule.specs.declared.verb.TheConstants.Verb.{ALL}
 
 -- a verb is found by its word, which has no space
@@ -20,6 +21,7 @@ has_word : (verb : Verb) → HasWord verb
 has_word Begin = (refl, refl)
 has_word (Thread Ask) = (refl, refl)
 has_word (Client Sub) = (refl, refl)
+has_word (Renew renew_verbs.Ask) = (refl, refl)
 has_word _ = (refl, refl)
 
 pub IsWordTable-verb_word : IsWordTable verb_word ALL

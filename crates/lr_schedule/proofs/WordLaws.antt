@@ -13,21 +13,24 @@ use Rattle.lr_names.proofs.OwnerLaws.{length-id_text}
 use Rattle.lr_objects.specs.declared.form.Arguments.{Arguments}
 use Rattle.lr_objects.specs.declared.form.Arguments.TheVariants as arguments
 use Rattle.lr_objects.specs.declared.want.Lease.{Lease}
+use Rattle.lr_objects.specs.declared.want.Lease.TheVariants as leases
 use Rattle.lr_objects.specs.declared.want.Mode.{Mode}
 use Rattle.lr_objects.specs.declared.want.Mode.TheVariants as modes
 use Rattle.lr_objects.specs.declared.want.Want.{Want}
 use Rattle.lr_objects.specs.Function.{arguments_of}
 use Rattle.lr_objects.specs.Want.{mode_word, lease_word, argument_words, want_words}
 use Rattle.lr_objects.proofs.FunctionLaws.{function_word-lacks}
-use Rattle.lr_machine.specs.EventText.{IsMillis, LeaseFits, NumberFits, AreNumbers}
+use Rattle.lr_machine.specs.EventText.{watch_word, IsLease, LeaseFits, NumberFits, AreNumbers}
 use Rattle.lr_schedule.specs.declared.spelled.Spelled.{Spelled}
-use Rattle.lr_schedule.specs.declared.spelled.Spelled.TheVariants.{Begin, Thread, Client, Tick, Force, Show}
+use Rattle.lr_schedule.specs.declared.spelled.Spelled.TheVariants.{Begin, Thread, Client, Tick, Renew, Force, Show}
 use Rattle.lr_schedule.specs.Spelled.{verb_word, verb_of, more_words, CanSpell, IsMode}
-use Rattle.lr_schedule.proofs.ArgumentLaws.{is_mode_fitting}
+use Rattle.lr_schedule.proofs.ArgumentLaws.{is_lease_millis, is_mode_fitting}
 use Rattle.lr_schedule.proofs.VerbLaws.{verb_word-lacks}
+use Rattle.lr_schedule.proofs.KindLaws.{watch_word-lacks}
 
-lease-is_word : (lease : Lease) → IsMillis lease → IsTrue (lacks 32 (lease_word lease))
-lease-is_word lease h = rw h.1 (decimal-is_word h.0 h.2)
+lease-is_word : (lease : Lease) → IsLease lease → IsTrue (lacks 32 (lease_word lease))
+lease-is_word leases.Watch h = refl
+lease-is_word (leases.For millis) small = decimal-is_word millis small
 
 -- neither a hyphen nor a digit of sixteen is a space
 hex_digit-other : (d : ℕ) → d < 16 → hex_digit lower d ≢ 32
@@ -64,7 +67,8 @@ argument_words-are_words arguments.Nothing want lease number = refl
 argument_words-are_words arguments.Id want lease number =
     one_word (id_text want.id) (id_text-is_word want.id)
 argument_words-are_words arguments.IdAndLease want lease number =
-    let millis = one_word (lease_word want.lease) (lease-is_word want.lease lease) in
+    let is_lease = is_lease_millis want.lease lease in
+    let millis = one_word (lease_word want.lease) (lease-is_word want.lease is_lease) in
     and_from _ _ (id_text-is_word want.id) millis
 
 -- a client and a thread
@@ -92,6 +96,10 @@ more_words-are_words (Thread verb who) h = who_words who.client who.thread [] h 
 more_words-are_words (Client verb client) h = one_word (decimal client) (decimal-is_word client h)
 more_words-are_words (Tick moment) h =
     one_word (decimal moment) (decimal-is_word moment (omega arith))
+more_words-are_words (Renew verb who kind name) h =
+    let named = one_word name (name-lacks 32 name refl h.1) in
+    let of_kind = and_from _ _ (watch_word-lacks kind) named in
+    who_words who.client who.thread (watch_word kind ∷ name ∷ []) h.0 of_kind
 more_words-are_words (Force name) h = one_word name (name-lacks 32 name refl h)
 more_words-are_words Show h = refl
 

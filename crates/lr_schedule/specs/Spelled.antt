@@ -4,27 +4,29 @@ use Rattle.lr_limits.specs.Limits.{event_limit, last_moment, longest_lease}
 use Rattle.lr_names.specs.Name.{IsName}
 use Rattle.lr_names.specs.Owner.{IsThread}
 use Rattle.lr_objects.specs.declared.form.Arguments.{Arguments}
-use Rattle.lr_objects.specs.declared.want.Lease.TheVariants as leases
 use Rattle.lr_objects.specs.declared.want.Mode.{Mode}
 use Rattle.lr_objects.specs.declared.want.Mode.TheVariants as modes
 use Rattle.lr_objects.specs.declared.want.Want.{Want}
 use Rattle.lr_objects.specs.Want.{HasAmount, mode_word, want_words}
-use Rattle.lr_waiting.specs.Begin.{CanBegin}
+use Rattle.lr_waiting.specs.declared.watch.WatchKind.{WatchKind}
+use Rattle.lr_waiting.specs.Begin.{CanBegin, FitsLease}
 use Rattle.lr_machine.specs.declared.event.Event.{Event}
 use Rattle.lr_machine.specs.declared.event.Event.TheVariants as events
 use Rattle.lr_machine.specs.declared.schedule_line.ScheduleLine.{ScheduleLine}
 use Rattle.lr_machine.specs.declared.schedule_line.ScheduleLine.TheVariants as lines
-use Rattle.lr_machine.specs.EventText.{IsNumber, AreNumbers, LeaseFits, NumberFits, IdFits, IsSpelled}
+use Rattle.lr_machine.specs.EventText.{hold_words, IsNumber, AreNumbers, LeaseFits, NumberFits, IdFits, IsSpelled}
 use Rattle.lr_machine.specs.Within.{IsClient, IsWithin}
 use Rattle.lr_schedule.specs.declared.verb.ThreadVerb.{ThreadVerb}
 use Rattle.lr_schedule.specs.declared.verb.ThreadVerb.TheVariants as thread_verbs
 use Rattle.lr_schedule.specs.declared.verb.ClientVerb.{ClientVerb}
 use Rattle.lr_schedule.specs.declared.verb.ClientVerb.TheVariants as client_verbs
+use Rattle.lr_schedule.specs.declared.verb.RenewVerb.{RenewVerb}
+use Rattle.lr_schedule.specs.declared.verb.RenewVerb.TheVariants as renew_verbs
 use Rattle.lr_schedule.specs.declared.verb.Verb.{Verb}
 use Rattle.lr_schedule.specs.declared.verb.Verb.TheVariants as verbs
 use Rattle.lr_schedule.specs.declared.spelled.Who.{Who}
 use Rattle.lr_schedule.specs.declared.spelled.Spelled.{Spelled}
-use Rattle.lr_schedule.specs.declared.spelled.Spelled.TheVariants.{Begin, Thread, Client, Tick, Force, Show}
+use Rattle.lr_schedule.specs.declared.spelled.Spelled.TheVariants.{Begin, Thread, Client, Tick, Renew, Force, Show}
 
 -- the word that a line begins with. A further event adds its line, here and to the events below.
 abbrev pub thread_word : ThreadVerb → List ℕ
@@ -41,11 +43,17 @@ client_word client_verbs.Sub = codes "sub"
 client_word client_verbs.Push = codes "push"
 client_word client_verbs.Cut = codes "cut"
 
+abbrev pub renew_word : RenewVerb → List ℕ
+renew_word renew_verbs.Ask = codes "rask"
+renew_word renew_verbs.Exec = codes "rexec"
+renew_word renew_verbs.Take = codes "rtake"
+
 abbrev pub verb_word : Verb → List ℕ
 verb_word verbs.Begin = codes "begin"
 verb_word (verbs.Thread verb) = thread_word verb
 verb_word (verbs.Client verb) = client_word verb
 verb_word verbs.Tick = codes "tick"
+verb_word (verbs.Renew verb) = renew_word verb
 verb_word verbs.Force = codes "force"
 verb_word verbs.Show = codes "show"
 
@@ -64,11 +72,17 @@ client_event client_verbs.Sub client = events.Sub client
 client_event client_verbs.Push client = events.Push client
 client_event client_verbs.Cut client = events.Cut client
 
+abbrev pub renew_event : RenewVerb → ℕ → ℕ → WatchKind → List ℕ → Event
+renew_event renew_verbs.Ask client thread kind name = events.RenewAsk client thread kind name
+renew_event renew_verbs.Exec client thread kind name = events.RenewExec client thread kind name
+renew_event renew_verbs.Take client thread kind name = events.RenewTake client thread kind name
+
 abbrev pub event_of : Spelled → Event
 event_of (Begin who mode want) = events.Begin who.client who.thread mode want
 event_of (Thread verb who) = thread_event verb who.client who.thread
 event_of (Client verb client) = client_event verb client
 event_of (Tick moment) = events.Tick moment
+event_of (Renew verb who kind name) = renew_event verb who.client who.thread kind name
 event_of (Force name) = events.Force name
 event_of Show = events.Show
 
@@ -78,6 +92,7 @@ verb_of (Begin who mode want) = verbs.Begin
 verb_of (Thread verb who) = verbs.Thread verb
 verb_of (Client verb client) = verbs.Client verb
 verb_of (Tick moment) = verbs.Tick
+verb_of (Renew verb who kind name) = verbs.Renew verb
 verb_of (Force name) = verbs.Force
 verb_of Show = verbs.Show
 
@@ -88,6 +103,7 @@ more_words (Begin who mode want) =
 more_words (Thread verb who) = decimal who.client ∷ decimal who.thread ∷ []
 more_words (Client verb client) = decimal client ∷ []
 more_words (Tick moment) = decimal moment ∷ []
+more_words (Renew verb who kind name) = hold_words who.client who.thread kind name
 more_words (Force name) = name ∷ []
 more_words Show = []
 
@@ -98,6 +114,7 @@ CanSpell (Begin who mode want) =
 CanSpell (Thread verb who) = AreNumbers who.client who.thread
 CanSpell (Client verb client) = IsNumber client
 CanSpell (Tick moment) = moment ≤ last_moment
+CanSpell (Renew verb who kind name) = AreNumbers who.client who.thread × IsName name
 CanSpell (Force name) = IsName name
 CanSpell Show = Unit {0}
 
@@ -129,7 +146,7 @@ pub record IsGiven (arguments : Arguments) (want : Want) : Type 0 where
   pub number : NumberFits arguments want.number
   pub id : IdFits arguments want.id
   pub amount : HasAmount arguments want
-  pub own_lease : (millis : ℕ) × (want.lease ≡ leases.For millis)
+  pub watched : FitsLease arguments want.lease
 
 -- a client and a thread within the limits
 abbrev pub AreWithin : Who → Type 0

@@ -1,9 +1,9 @@
-ghost use Rattle.std.specs.Prelude.{◌≡◌, ◌≢◌, ◌↔◌, ℕ, List, ◌∷◌, ◌++◌, decimal, IsTrue, IsErr, IfOk};
+ghost use Rattle.std.specs.Prelude.{◌≡◌, ◌≢◌, ◌↔◌, ℕ, List, ◌∷◌, ◌++◌, decimal, IsTrue, IsErr, IsNone, IfOk, IfSome};
 ghost use Rattle.lr_objects.specs.declared.want.Want.{Want};
 ghost use Rattle.lr_objects.specs.Amount.{IsAmount};
 ghost use Rattle.lr_objects.specs.Want.{lease_word, argument_words};
 ghost use Rattle.lr_objects.specs.declared.want.Lease.{Lease};
-ghost use Rattle.lr_machine.specs.EventText.{IsMillis};
+ghost use Rattle.lr_machine.specs.EventText.{IsLease, IsMillis};
 ghost use Rattle.lr_schedule.specs.Spelled.{IsGiven};
 
 use crate::fault::Expected;
@@ -11,6 +11,7 @@ use crate::reader::Reader;
 use lr_limits::MOST_AMOUNT;
 use lr_names::Name;
 use lr_objects::{Arguments, Function, Lease, Want};
+use lr_text::read_number;
 use uuid::Uuid;
 
 /// Reads what a function with these arguments is given, into a want of the function for the object
@@ -51,7 +52,7 @@ pub fn read_arguments(
         }
         Arguments::IdAndLease => {
             let id = reader.id()?;
-            let lease = read_lease(reader)?;
+            let lease = read_permit_lease(reader)?;
             Ok(Want {
                 id,
                 lease,
@@ -61,14 +62,37 @@ pub fn read_arguments(
     }
 }
 
-// A lease in milliseconds.
+// A lease in milliseconds, or the watchdog's.
 fn read_lease(reader: &mut Reader<'_>) -> Result<Lease, Expected>
+    ensures some { IfOk result (λ lease. reader.old ≡ lease_word lease ∷ reader.new) }
+    ensures lease { IfOk result IsLease }
+    ensures none { IsErr result → (lease : Lease) (rest : List (List ℕ)) → IsLease lease
+        → reader.old ≢ lease_word lease ∷ rest }
+{
+    let word = reader.word(Expected::Lease)?;
+    lease_of_word(word).ok_or(Expected::Lease)
+}
+
+fn lease_of_word(word: &[u8]) -> Option<Lease>
+    ensures some { IfSome result (λ lease. word.now ≡ lease_word lease) }
+    ensures lease { IfSome result IsLease }
+    ensures none { IsNone result → (lease : Lease) → IsLease lease → word.now ≢ lease_word lease }
+{
+    if word == b"watch".as_slice() {
+        return Some(Lease::Watch);
+    }
+    let millis = read_number(word)?;
+    Some(Lease::For(millis))
+}
+
+// The lease of a permit, which no watchdog renews: in milliseconds.
+fn read_permit_lease(reader: &mut Reader<'_>) -> Result<Lease, Expected>
     ensures some { IfOk result (λ lease. reader.old ≡ lease_word lease ∷ reader.new) }
     ensures millis { IfOk result IsMillis }
     ensures none { IsErr result → (lease : Lease) (rest : List (List ℕ)) → IsMillis lease
         → reader.old ≢ lease_word lease ∷ rest }
 {
-    let millis = reader.number(Expected::Lease)?;
+    let millis = reader.number(Expected::PermitLease)?;
     Ok(Lease::For(millis))
 }
 

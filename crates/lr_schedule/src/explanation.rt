@@ -2,6 +2,7 @@ ghost use Rattle.std.specs.Prelude.{◌≡◌, ℕ, List, IfOk};
 ghost use Rattle.lr_schedule.specs.Explanation.{explanation};
 
 use crate::fault::{Expected, Fault, Outside};
+use crate::kind::{WATCH_KINDS, watch_word};
 use crate::quotation::push_quotation;
 use crate::read::read_spelled;
 use crate::spelled::Spelled;
@@ -130,10 +131,11 @@ fn noun(expected: Expected) -> Option<&'static [u8]> {
         Expected::Mode | Expected::Once(_) => Some(b"mode"),
         Expected::Function => Some(b"function"),
         Expected::Name => Some(b"name"),
-        Expected::Lease => Some(b"lease"),
+        Expected::Lease | Expected::PermitLease => Some(b"lease"),
         Expected::Amount => Some(b"number"),
         Expected::Id => Some(b"id"),
         Expected::Moment => Some(b"moment"),
+        Expected::Kind => Some(b"kind"),
         Expected::End => None,
     }
 }
@@ -148,10 +150,17 @@ fn push_rule(text: &mut Text, expected: Expected) -> Result<(), AllocError> {
         Expected::Once(function) => push_once(text, function),
         Expected::Function => push_functions(text),
         Expected::Name => push_names(text),
-        Expected::Lease => push_numbers(text, b"leases are milliseconds, ", 0, u64::MAX),
+        Expected::Lease => push_numbers(text, b"leases are watch, or milliseconds, ", 0, u64::MAX),
+        Expected::PermitLease => push_numbers(
+            text,
+            b"leases of permits are milliseconds, ",
+            0,
+            u64::MAX,
+        ),
         Expected::Amount => push_numbers(text, b"numbers are ", 1, MOST_AMOUNT),
         Expected::Id => text.push_bytes(b"ids are UUIDs in hyphenated lower-case form"),
         Expected::Moment => push_numbers(text, b"moments are milliseconds, ", 0, LAST_MOMENT),
+        Expected::Kind => push_kinds(text),
         Expected::End => text.push_bytes(b"the line should be over"),
     }
 }
@@ -190,6 +199,16 @@ fn push_functions(text: &mut Text) -> Result<(), AllocError> {
             text.push_bytes(function.word())?;
             front = b", ";
         }
+    }
+    Ok(())
+}
+
+fn push_kinds(text: &mut Text) -> Result<(), AllocError> {
+    let mut front: &[u8] = b"kinds are ";
+    for kind in WATCH_KINDS.iter() {
+        text.push_bytes(front)?;
+        text.push_bytes(watch_word(*kind))?;
+        front = b", ";
     }
     Ok(())
 }

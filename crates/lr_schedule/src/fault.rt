@@ -17,14 +17,18 @@ pub enum Expected {
     Function,
     /// The name of an object.
     Name,
-    /// A lease in milliseconds.
+    /// A lease in milliseconds, or the watchdog's.
     Lease,
+    /// The lease of a permit, in milliseconds.
+    PermitLease,
     /// A number of permits or counts.
     Amount,
     /// The id of a permit.
     Id,
     /// A moment that a clock can show.
     Moment,
+    /// The kind of a hold that is watched.
+    Kind,
     /// Nothing: the line should be over.
     End,
 }

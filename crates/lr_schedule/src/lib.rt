@@ -5,6 +5,7 @@
 mod arguments;
 mod explanation;
 mod fault;
+mod kind;
 mod laws;
 mod line;
 mod mode;

@@ -14,10 +14,11 @@ ghost use Rattle.lr_schedule.specs.Spelled.{event_of, verb_word, Completes, IsMo
 
 use crate::arguments::read_arguments;
 use crate::fault::{Expected, Fault};
+use crate::kind::read_kind;
 use crate::mode::{fits_mode, read_mode};
 use crate::reader::Reader;
 use crate::spelled::{Spelled, Who};
-use crate::verb::Verb;
+use crate::verb::{RenewVerb, Verb};
 use lr_limits::LAST_MOMENT;
 use lr_machine::ScheduleLine;
 use lr_objects::{Function, Mode, Want};
@@ -93,6 +94,7 @@ fn read_more(verb: Verb, reader: &mut Reader<'_>) -> Result<Spelled, Expected>
         Verb::Thread(verb) => Ok(Spelled::Thread(verb, read_who(reader)?)),
         Verb::Client(verb) => Ok(Spelled::Client(verb, reader.number(Expected::Client)?)),
         Verb::Tick => Ok(Spelled::Tick(read_moment(reader)?)),
+        Verb::Renew(verb) => read_renewal(verb, reader),
         Verb::Force => Ok(Spelled::Force(reader.name()?)),
         Verb::Show => Ok(Spelled::Show),
     }
@@ -108,6 +110,18 @@ fn read_begin(reader: &mut Reader<'_>) -> Result<Spelled, Expected>
     let mode = read_mode(reader)?;
     let want = read_want(mode, reader)?;
     Ok(Spelled::Begin(who, mode, want))
+}
+
+// What stands behind each verb of a renewal: whose hold it is, and of which lock.
+fn read_renewal(verb: RenewVerb, reader: &mut Reader<'_>) -> Result<Spelled, Expected>
+    ensures some { IfOk result (λ s. Completes (Verb.Renew verb) reader.old s reader.new) }
+    ensures none { IsErr result → (s : Spelled) (rest : List (List ℕ))
+        → ¬ Completes (Verb.Renew verb) reader.old s rest }
+{
+    let who = read_who(reader)?;
+    let kind = read_kind(reader)?;
+    let name = reader.name()?;
+    Ok(Spelled::Renew(verb, who, kind, name))
 }
 
 // A client and a thread.

@@ -1,14 +1,14 @@
 ghost use Rattle.std.specs.Prelude.{◌≡◌, ◌+◌, ◌≤◌, length, ◌++◌, codes, decimal};
 ghost use Rattle.lr_names.specs.Channel.{channel_text};
 ghost use Rattle.lr_objects.specs.Reply.{number_text, reply_text};
-ghost use Rattle.lr_machine.specs.Transcript.{post_text, due_text, order_word, cut_of, ordered_text, left_text, phase_word, found_word};
+ghost use Rattle.lr_machine.specs.Transcript.{post_text, due_text, renewal_text, order_word, cut_of, ordered_text, left_text, phase_word, found_word};
 ghost use Rattle.lr_schedule.specs.Tail.{short_text};
 
 use crate::line::{Line, push_number};
 use lr_machine::{Found, Ordered, Reached, Replied, Shown};
 use lr_names::{Channel, Due};
 use lr_objects::Reply;
-use lr_waiting::Phase;
+use lr_waiting::{Phase, RenewTaken};
 
 /// Appends what is shown of an event, but for a list of clients or of threads.
 pub fn push_short(line: &mut Line, shown: &Shown)
@@ -35,6 +35,8 @@ pub fn push_short(line: &mut Line, shown: &Shown)
         Shown::Left(channel) => push_left(line, channel),
         Shown::Delivered(channel, number) => push_counted(line, b"message ", channel, *number),
         Shown::Moment(moment) => push_moment(line, *moment),
+        Shown::RenewAsked => line.push_bytes(b"renew-asked"),
+        Shown::RenewTaken(taken) => push_renewal(line, taken),
         Shown::Cut => line.push_bytes(b"cut"),
         Shown::Standings(_) => {}
         Shown::No(found) => push_no(line, *found),
@@ -90,6 +92,22 @@ fn push_moment(line: &mut Line, moment: u64)
 {
     line.push_bytes(b"moment ");
     push_number(line, moment);
+}
+
+// What comes of the reply to a renewal.
+fn push_renewal(line: &mut Line, taken: &RenewTaken)
+    requires { length line.old ≤ 30 }
+    ensures text { line.new ≡ line.old ++ renewal_text taken.now }
+    ensures short { length line.new ≤ length line.old + 24 }
+{
+    match taken {
+        RenewTaken::Due(moment) => {
+            line.push_bytes(b"due ");
+            push_number(line, *moment);
+        }
+        RenewTaken::Ended => line.push_bytes(b"ended"),
+        RenewTaken::Stale => line.push_bytes(b"stale"),
+    }
 }
 
 fn push_no(line: &mut Line, found: Found)
@@ -215,6 +233,10 @@ fn found_word(found: Found) -> &'static [u8]
         Found::Phase(phase) => phase_word(phase),
         Found::Orders => b"orders",
         Found::Pushes => b"pushes",
+        Found::Watch => b"watch",
+        Found::Renewing => b"renewing",
+        Found::Due => b"due",
+        Found::Renewal => b"renewal",
     }
 }
 

@@ -4,11 +4,12 @@ ghost use Rattle.lr_machine.specs.Within.{IsClient, IsWithin};
 ghost use Rattle.lr_schedule.specs.Spelled.{event_of, AreWithin, IsLimited};
 
 use crate::fault::Outside;
-use crate::verb::{ClientVerb, ThreadVerb};
+use crate::verb::{ClientVerb, RenewVerb, ThreadVerb};
 use lr_limits::{MOST_CLIENTS, MOST_EVENTS, MOST_THREADS};
 use lr_machine::{Event, ScheduleLine, ThreadId};
 use lr_names::Name;
 use lr_objects::{Mode, Want};
+use lr_waiting::WatchKind;
 
 /// A client and a thread as a line spells them: they may be outside the limits.
 #[derive(Clone, Copy)]
@@ -30,6 +31,8 @@ pub enum Spelled {
     Client(ClientVerb, u64),
     /// The clock shows this moment.
     Tick(u64),
+    /// Something is done in the renewal of the thread's hold of the lock of this kind and name.
+    Renew(RenewVerb, Who, WatchKind, Name),
     /// An operator takes a lock away.
     Force(Name),
     /// It is asked what stands for those that sleep.
@@ -105,6 +108,10 @@ impl Spelled {
                 Ok(verb.event(client))
             }
             Spelled::Tick(moment) => Ok(Event::Tick(*moment)),
+            Spelled::Renew(verb, who, kind, name) => {
+                let id = who.thread_id()?;
+                Ok(verb.event(id, *kind, *name))
+            }
             Spelled::Force(name) => Ok(Event::Force(*name)),
             Spelled::Show => Ok(Event::Show),
         }

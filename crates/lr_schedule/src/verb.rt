@@ -1,9 +1,11 @@
 ghost use Rattle.std.specs.Prelude.{◌≡◌, ◌≢◌, IsNone, IfSome};
 ghost use Rattle.lr_text.specs.WordTable.{with_word};
 ghost use Rattle.lr_schedule.specs.declared.verb.Verb.{Verb};
-ghost use Rattle.lr_schedule.specs.Spelled.{thread_word, client_word, thread_event, client_event, verb_word};
+ghost use Rattle.lr_schedule.specs.Spelled.{thread_word, client_word, renew_word, thread_event, client_event, renew_event, verb_word};
 
 use lr_machine::{Event, ThreadId};
+use lr_names::Name;
+use lr_waiting::WatchKind;
 
 /// What a thread does in an event that names nothing else.
 #[derive(Clone, Copy)]
@@ -35,6 +37,17 @@ pub enum ClientVerb {
     Cut,
 }
 
+/// What is done in the renewal of a hold that a client watches.
+#[derive(Clone, Copy)]
+pub enum RenewVerb {
+    /// The client asks for it.
+    Ask,
+    /// The server executes it.
+    Exec,
+    /// The client takes the reply.
+    Take,
+}
+
 /// What an event does, without whom and what it does it to.
 #[derive(Clone, Copy)]
 pub enum Verb {
@@ -46,6 +59,8 @@ pub enum Verb {
     Client(ClientVerb),
     /// The clock shows a moment.
     Tick,
+    /// Something is done in the renewal of a hold.
+    Renew(RenewVerb),
     /// An operator takes a lock away.
     Force,
     /// It is asked what stands for those that sleep.
@@ -109,9 +124,49 @@ impl ClientVerb {
     }
 }
 
+impl RenewVerb {
+    /// The word of the verb.
+    pub fn word(self) -> &'static [u8]
+        ensures { result.now ≡ renew_word self }
+    {
+        match self {
+            RenewVerb::Ask => b"rask",
+            RenewVerb::Exec => b"rexec",
+            RenewVerb::Take => b"rtake",
+        }
+    }
+
+    /// The event in which it is done for the thread's hold of the lock of this kind and name.
+    pub fn event(self, id: ThreadId, kind: WatchKind, name: Name) -> Event
+        ensures { result ≡ renew_event self id.client id.thread kind name }
+    {
+        let ThreadId { client, thread } = id;
+        match self {
+            RenewVerb::Ask => Event::RenewAsk {
+                client,
+                thread,
+                kind,
+                name,
+            },
+            RenewVerb::Exec => Event::RenewExec {
+                client,
+                thread,
+                kind,
+                name,
+            },
+            RenewVerb::Take => Event::RenewTake {
+                client,
+                thread,
+                kind,
+                name,
+            },
+        }
+    }
+}
+
 impl Verb {
     /// All verbs.
-    pub const ALL: [Verb; 14] = [
+    pub const ALL: [Verb; 17] = [
         Verb::Begin,
         Verb::Thread(ThreadVerb::Ask),
         Verb::Thread(ThreadVerb::Exec),
@@ -123,6 +178,9 @@ impl Verb {
         Verb::Client(ClientVerb::Sub),
         Verb::Client(ClientVerb::Push),
         Verb::Tick,
+        Verb::Renew(RenewVerb::Ask),
+        Verb::Renew(RenewVerb::Exec),
+        Verb::Renew(RenewVerb::Take),
         Verb::Force,
         Verb::Client(ClientVerb::Cut),
         Verb::Show,
@@ -137,6 +195,7 @@ impl Verb {
             Verb::Thread(verb) => verb.word(),
             Verb::Client(verb) => verb.word(),
             Verb::Tick => b"tick",
+            Verb::Renew(verb) => verb.word(),
             Verb::Force => b"force",
             Verb::Show => b"show",
         }

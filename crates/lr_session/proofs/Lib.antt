@@ -1,2 +1,3 @@
 pub mod ThreadRequests
 pub mod Joined
+pub mod WatchedRequests

@@ -1,5 +1,5 @@
 -- What contracts see of the core of a client, and the session of the definitions that it is.
-use Rattle.std.specs.Prelude.{ℕ, ◌≡◌, ◌≤◌, ◌==◌, List, Bool, true, false, Option, Some, None}
+use Rattle.std.specs.Prelude.{ℕ, ◌≡◌, ◌≤◌, ◌==◌, List, Bool, true, Option, Some}
 use Rattle.std.specs.Map.{lookup}
 use Rattle.lr_limits.specs.Limits.{last_moment}
 use Rattle.lr_names.specs.Owner.{IsThread}
@@ -11,15 +11,16 @@ use Rattle.lr_waiting.specs.declared.waiter.Waiter.{Waiter}
 use Rattle.lr_waiting.specs.Begin.{CanBegin}
 use Rattle.lr_waiting.specs.Session.{Session, may_wait}
 use Rattle.lr_latch.specs.Value.{LatchesValue, latches_of}
+use Rattle.lr_watchdog.specs.Value.{WatchesValue, watchdog_of}
 
--- the client's id, the lease of its watchdog, the requests by their threads, the latches, the last
--- ticket that was given, whether the client was cut off, and for how many tickets there is room
+-- the client's id, the requests by their threads, the latches, the last ticket that was given, the
+-- watches, whether the client was cut off, and for how many tickets there is room
 pub record SessionValue : Type 0 where
   pub client : List ℕ
-  pub lease : ℕ
   pub waiters : List (ℕ × Waiter)
   pub latches : LatchesValue
   pub turn : ℕ
+  pub watches : WatchesValue
   pub is_cut : Bool
   pub room : ℕ
 
@@ -27,23 +28,20 @@ pub record SessionValue : Type 0 where
 abbrev pub waiter_of : List (ℕ × Waiter) → ℕ → Option Waiter
 waiter_of rows thread = lookup (λ other. thread == other) rows
 
--- the session that it is: it renews no hold yet
+-- the session that it is
 abbrev pub session_of : SessionValue → Session
 session_of value = record {
   client = value.client;
-  lease = value.lease;
   waiters = waiter_of value.waiters;
   latches = latches_of value.latches;
   turn = value.turn;
-  watches = λ key. None;
-  generation = 0;
+  watchdog = watchdog_of value.watches;
   is_cut = value.is_cut;
 }
 
--- a call was sent at a moment that a clock shows, and with a lease that nobody renews
+-- a call was sent at a moment that a clock shows
 pub record IsAsking (asking : Asking) : Type 0 where
   pub early : asking.at ≤ last_moment
-  pub unwatched : asking.watched ≡ false
 
 -- what a request in this mode has sent, and that only one that may wait is refused or sleeps
 abbrev pub IsStage : Mode → Stage → Type 0

@@ -1,17 +1,19 @@
-//! The core of a client: the requests of its threads, its latches, and the tickets by which its
-//! threads send their calls. Its steps are the rows of the definitions of waiting.
+//! The core of a client: the requests of its threads, its latches, its watches, and the tickets by
+//! which its threads send their calls. Its steps are the rows of the definitions of waiting.
 #![tactic(auto)]
 
 mod asks;
 mod fault;
 mod joining;
 mod pushes;
+mod renewals;
 mod requests;
 mod stages;
 mod state;
 mod threads;
 mod waiters;
 mod waits;
+mod watches;
 
 pub use asks::Asks;
 pub use fault::SessionFault;

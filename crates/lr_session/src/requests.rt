@@ -8,7 +8,7 @@ ghost use Rattle.lr_waiting.specs.declared.told.Taken.TheVariants as takes;
 ghost use Rattle.lr_waiting.specs.declared.waiter.Stage.TheVariants as stages;
 ghost use Rattle.lr_waiting.specs.Begin.{CanBegin};
 ghost use Rattle.lr_waiting.specs.Latch.{is_subscribed, register_in};
-ghost use Rattle.lr_waiting.specs.Session.{phase_in, begin_row, take_row, asked, asking_for, lease_in, may_wait, refused, registered, taken, with_ticket, without_waiter, entry_for};
+ghost use Rattle.lr_waiting.specs.Session.{phase_in, begin_row, take_row, asked, asking_for, may_wait, refused, registered, taken, with_ticket, without_waiter, entry_for};
 ghost use Rattle.lr_waiting.specs.Told.{next_ticket, ticket_of, ask_by, taken_by, taken_with, refused_with};
 ghost use Rattle.lr_session.specs.Stages.{want_at};
 ghost use Rattle.lr_session.specs.Told.{IsFault, IsNotNow, op_noted};
@@ -16,11 +16,11 @@ ghost use Rattle.lr_session.specs.Value.{IsAsking, IsRequest, session_of};
 
 use crate::fault::SessionFault;
 use crate::stages::{
-    asked_at, at_stage, due_after, has_turn, is_watch, joined, may_wait, new_waiter, phase_at,
-    turn_at, waits_for, want_at,
+    asked_at, at_stage, due_after, has_turn, joined, may_wait, new_waiter, phase_at, turn_at,
+    waits_for, want_at,
 };
 use crate::state::SessionState;
-use lr_objects::{Lease, Mode, Op, Reply, Want};
+use lr_objects::{Mode, Op, Reply, Want};
 use lr_waiting::{Ask, Asking, Phase, Refusal, Stage, Taken, Waiter};
 use std::alloc::AllocError;
 
@@ -104,35 +104,26 @@ impl SessionState {
     fn asking(&self, thread: u32, waiter: &Waiter, want: &Want, moment: u64) -> Asking
         requires request { IsRequest thread waiter.now }
         requires amount { HasAmount (arguments_of want.now.function) want.now }
-        requires lease { want.now.lease ≡ waiter.now.want.lease }
         requires early { moment ≤ last_moment }
         ensures asking { result
             ≡ asking_for thread moment want.now waiter.now (session_of self.now) }
         ensures sent { IsAsking result }
     {
         let owner = self.owner(thread);
-        let lease = self.lease_asked(want.lease);
+        let watched = self.asks_watched(thread, want);
+        let lease = self.lease_asked(watched, want.lease);
         let channel = self.channel(thread, &waiter.want);
         Asking {
             op: want.op(&owner, lease, may_wait(waiter.mode)),
             at: moment,
             seen: self.latches.seen(&channel),
-            watched: is_watch(want.lease),
+            watched,
         }
     }
 
-    // A lease in milliseconds.
-    fn lease_asked(&self, lease: Lease) -> u64
-        ensures { result ≡ lease_in (session_of self.now) lease }
-    {
-        match lease {
-            Lease::Watch => self.lease,
-            Lease::For(millis) => millis,
-        }
-    }
-
-    /// A thread takes the reply to its call: its request ends, or waits. `NotNow` where it has sent
-    /// no call; else `NoMemory`. An error changes nothing.
+    /// A thread takes the reply to its call: its request ends, or waits. From a grant under the
+    /// watchdog's lease on the hold is renewed, until it is given back. `NotNow` where the thread
+    /// has sent no call; else `NoMemory`. An error changes nothing.
     pub fn take(&mut self, thread: u32, reply: &Reply) -> Result<Taken, SessionFault>
         ensures ok { OnOk result (Some (session_of self.new)
             ≡ take_row thread reply.now (session_of self.old)) }
@@ -173,6 +164,8 @@ impl SessionState {
         if waits_for(reply, &waiter) {
             return self.refuse(thread, waiter, asking, reply);
         }
+        // A watch may want memory, so the request ends after it.
+        self.watch(self.key_of(thread, &waiter.want), asking, reply)?;
         self.end(thread, &waiter);
         Ok(Taken::Done(*reply))
     }

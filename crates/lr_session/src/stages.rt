@@ -176,7 +176,6 @@ pub(crate) fn leaving_want(want: Want) -> Want
     requires { HasAmount (arguments_of want.function) want }
     ensures value { result ≡ leaving_want want (leaving_function want.function) }
     ensures amount { HasAmount (arguments_of result.function) result }
-    ensures lease { result.lease ≡ want.lease }
 {
     match leaving_function(want.function) {
         Some(function) => Want { function, ..want },
@@ -189,7 +188,6 @@ pub(crate) fn want_at(waiter: Waiter) -> Want
     requires { HasAmount (arguments_of waiter.want.function) waiter.want }
     ensures value { result ≡ want_at waiter waiter.stage }
     ensures amount { HasAmount (arguments_of result.function) result }
-    ensures lease { result.lease ≡ waiter.want.lease }
 {
     let Waiter { want, stage, .. } = waiter;
     match stage {

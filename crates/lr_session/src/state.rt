@@ -1,4 +1,5 @@
-ghost use Rattle.std.specs.Prelude.{◌≡◌, IfSome};
+ghost use Rattle.std.specs.Prelude.{◌≡◌, ◌≤◌, IfSome};
+ghost use Rattle.lr_limits.specs.Limits.{longest_lease};
 ghost use Rattle.lr_names.specs.Owner.{IsThread};
 ghost use Rattle.lr_objects.specs.Function.{arguments_of};
 ghost use Rattle.lr_objects.specs.Want.{HasAmount};
@@ -15,21 +16,22 @@ use lr_latch::Latches;
 use lr_names::{Channel, Owner};
 use lr_objects::Want;
 use lr_waiting::{LatchEntry, Order, Phase, Waiter};
+use lr_watchdog::Watches;
 use std::alloc::Global;
 use std::marker::Model;
 use uuid::Uuid;
 
-/// The core of a client: it knows what each of its threads waits for. It has no clock and no
-/// connection: who uses it sends its calls and orders, and hands it the replies and what the server
-/// pushes. A thread is 1 to 256, and moments are in milliseconds. No call but `push` and `tick`
+/// The core of a client: it knows what each of its threads waits for, and which holds are renewed.
+/// It has no clock and no connection: who uses it sends its calls and orders, and hands it the
+/// replies and what the server pushes. A thread is 1 to 256, and moments are in milliseconds. No call but `push` and `tick`
 /// touches another thread than its own.
 #[derive(Drop)]
 pub struct SessionState {
     pub(crate) client: Uuid,
-    pub(crate) lease: u64,
     pub(crate) waiters: Waiters,
     pub(crate) latches: Latches,
     pub(crate) turn: u64,
+    pub(crate) watches: Watches,
     pub(crate) is_cut: bool,
     pub(crate) spare: SpareAsks,
     pub(crate) alloc: Global,
@@ -42,10 +44,10 @@ impl Model for SessionState {
 
     ghost view = { λ s. record {
       client = s.client;
-      lease = s.lease;
       waiters = s.waiters;
       latches = s.latches;
       turn = s.turn;
+      watches = s.watches;
       is_cut = s.is_cut;
       room = s.spare;
     } };
@@ -53,16 +55,18 @@ impl Model for SessionState {
 
 impl SessionState {
     /// The core of a client with this id, before its first request. The watchdog's lease is in
-    /// milliseconds. It takes no memory.
+    /// milliseconds, at least 3, since a hold is renewed each third of it. It takes no memory.
     pub fn new(alloc: Global, client: Uuid, lease: u64) -> Self
+        requires lease { 3 ≤ lease }
+        requires longest { lease ≤ longest_lease }
         ensures { session_of result ≡ first_session client lease }
     {
         SessionState {
             client,
-            lease,
             waiters: Waiters::new(alloc),
             latches: Latches::new(alloc),
             turn: 0,
+            watches: Watches::new(lease, alloc),
             is_cut: false,
             spare: SpareAsks::new(alloc),
             alloc,
@@ -143,14 +147,15 @@ impl SessionState {
         self.latches.next_order()
     }
 
-    /// The client was cut off: its requests, its latches and its orders are gone, and every later
-    /// step of a thread is refused. It takes no memory.
+    /// The client was cut off: its requests, its latches, its orders and its watches are gone, and
+    /// every later step of a thread is refused. It takes no memory.
     pub fn cut(&mut self)
         ensures session { session_of self.new ≡ cut_session (session_of self.old) }
         ensures room { self.new.room ≡ self.old.room }
     {
         self.waiters = Waiters::new(self.alloc);
         self.latches = Latches::new(self.alloc);
+        self.watches.cut();
         self.is_cut = true;
     }
 

@@ -19,6 +19,9 @@ use Rattle.lr_objects.specs.declared.read_write.ReadWriteFunction.{ReadWriteFunc
 use Rattle.lr_objects.specs.declared.read_write.ReadWriteFunction.TheVariants as read_write
 use Rattle.lr_objects.specs.declared.semaphore.SemaphoreFunction.{SemaphoreFunction}
 use Rattle.lr_objects.specs.declared.semaphore.SemaphoreFunction.TheVariants as semaphore
+use Rattle.lr_objects.specs.declared.form.Arguments.{Arguments}
+use Rattle.lr_objects.specs.declared.form.Arguments.TheVariants as arguments
+use Rattle.lr_objects.specs.declared.want.Lease.{Lease}
 use Rattle.lr_objects.specs.declared.want.Lease.TheVariants as leases
 use Rattle.lr_objects.specs.declared.want.Mode.{Mode}
 use Rattle.lr_objects.specs.declared.want.Mode.TheVariants as modes
@@ -73,10 +76,15 @@ FitsMode (modes.For millis) function =
     (waits function ≡ true) × ((1 ≤ millis) × (millis ≤ longest_lease))
 FitsMode modes.Long function = waits function ≡ true
 
+-- the watchdog's lease is for what a watchdog renews: a hold, and no permit
+abbrev pub FitsLease : Arguments → Lease → Type 0
+FitsLease arguments.Lease lease = Unit {0}
+FitsLease _ lease = (millis : ℕ) × (lease ≡ leases.For millis)
+
 -- what a request may begin with: a function that requests are made for, what that is given, a lease
--- of a number of milliseconds, and as long a wait as the function has. No lease is renewed yet.
+-- of a number of milliseconds or the watchdog's, and as long a wait as the function has
 pub record CanBegin (mode : Mode) (want : Want) : Type 0 where
   pub function : begins want.function ≡ true
   pub amount : HasAmount (arguments_of want.function) want
-  pub lease : (millis : ℕ) × (want.lease ≡ leases.For millis)
+  pub lease : FitsLease (arguments_of want.function) want.lease
   pub wait : FitsMode mode want.function

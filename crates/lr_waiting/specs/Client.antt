@@ -1,5 +1,5 @@
--- A client of a schedule: its core, and the replies that the server has given and its threads
--- haven't taken yet.
+-- A client of a schedule: its core, and the replies that the server has given and that it hasn't
+-- taken yet.
 use Rattle.std.specs.Prelude.{ℕ, ◌==◌, List, Bool, Option, Some, None, is_some, if◌then◌else◌}
 use Rattle.std.specs.Option.{option_map}
 use Rattle.lr_objects.specs.declared.reply.Reply.{Reply}
@@ -9,22 +9,33 @@ use Rattle.lr_waiting.specs.declared.waiter.Phase.TheVariants as phases
 use Rattle.lr_waiting.specs.declared.waiter.Stage.{Stage}
 use Rattle.lr_waiting.specs.declared.waiter.Stage.TheVariants.{Asked}
 use Rattle.lr_waiting.specs.declared.waiter.Waiter.{Waiter}
-use Rattle.lr_waiting.specs.Session.{Session, first_session, cut_session, phase_in, take_row}
+use Rattle.lr_waiting.specs.declared.watch.Renewal.{Renewal}
+use Rattle.lr_waiting.specs.declared.watch.WatchKey.{WatchKey}
+use Rattle.lr_waiting.specs.Session.{Session, first_session, cut_session, phase_in, take_row, renewed_row}
+use Rattle.lr_waiting.specs.Watchdog.{same_watch}
 use Rattle.lr_model.specs.Table.{put}
 
+-- its core, the replies to the calls of its threads, and those to its renewals
 pub record Client : Type 0 where
   pub session : Session
   pub replies : ℕ → Option Reply
+  pub renewed : WatchKey → Option Reply
 
 -- a client before its first request
 abbrev pub new_client : List ℕ → ℕ → Client
-new_client id lease =
-    record { session = first_session id lease; replies = λ thread. None }
+new_client id lease = record {
+  session = first_session id lease;
+  replies = λ thread. None;
+  renewed = λ key. None;
+}
 
 -- a client that was cut off: replies that weren't taken are lost
 abbrev pub cut_client : Client → Client
-cut_client client =
-    record { session = cut_session client.session; replies = λ thread. None }
+cut_client client = record {
+  session = cut_session client.session;
+  replies = λ thread. None;
+  renewed = λ key. None;
+}
 
 -- the request of a thread
 abbrev pub waiter_in : Client → ℕ → Option Waiter
@@ -70,3 +81,28 @@ take_with thread (Some reply) client =
 
 abbrev pub take_reply : ℕ → Client → Option Client
 take_reply thread client = take_with thread (client.replies thread) client
+
+-- Renewals.
+
+-- a reply that waits for a renewal, or none
+abbrev pub with_renewed : WatchKey → Option Reply → Client → Client
+with_renewed key reply client =
+    record client { renewed = put same_watch client.renewed key reply }
+
+-- the renewal of a hold that was asked for and that the server hasn't run
+abbrev pub renewing_at : Option Renewal → Option Reply → Option Renewal
+renewing_at (Some renewal) None = Some renewal
+renewing_at _ _ = None
+
+abbrev pub renewing_of : Client → WatchKey → Option Renewal
+renewing_of client key =
+    renewing_at (client.session.watchdog.renewals key) (client.renewed key)
+
+-- a client takes the reply that waits for a renewal
+abbrev pub take_renewed_with : WatchKey → Option Reply → Client → Option Client
+take_renewed_with key None client = None
+take_renewed_with key (Some reply) client =
+    client_row (renewed_row key reply) (with_renewed key None client)
+
+abbrev pub take_renewed : WatchKey → Client → Option Client
+take_renewed key client = take_renewed_with key (client.renewed key) client

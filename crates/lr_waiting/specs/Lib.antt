@@ -1,5 +1,6 @@
 pub mod WaiterValue
 pub mod Latch
+pub mod Watchdog
 pub mod Session
 pub mod Client
 pub mod Stand

@@ -1,13 +1,13 @@
 -- What a history tells of an owner's place in the queue of a fair lock, by the channel on which that
 -- owner waits. This project's own.
-use Rattle.std.specs.Prelude.{ℕ, List, [], ◌∷◌, Bool, true, false, ◌&&◌, ◌||◌, Option, Some, None, if◌then◌else◌}
+use Rattle.std.specs.Prelude.{ℕ, List, [], ◌∷◌, Bool, true, false, not, ◌&&◌, ◌||◌, Option, Some, None, if◌then◌else◌}
 use Rattle.std.specs.Option.{option_map}
 use Rattle.lr_names.specs.Channel.{ChannelOf, is_fair}
 use Rattle.lr_names.specs.Owner.{ThreadOfClient}
 use Rattle.lr_names.specs.declared.post.Post.{Post}
 use Rattle.lr_objects.specs.Op.{channel_of}
 use Rattle.lr_objects.specs.declared.fair.FairCall.{FairCall}
-use Rattle.lr_objects.specs.declared.fair.FairCall.TheVariants.{Try}
+use Rattle.lr_objects.specs.declared.fair.FairCall.TheVariants.{Try, Renew}
 use Rattle.lr_objects.specs.declared.kinds.Call.{Call}
 use Rattle.lr_objects.specs.declared.kinds.Call.TheVariants.{Fair}
 use Rattle.lr_objects.specs.declared.op.Op.{Op}
@@ -22,6 +22,19 @@ use Rattle.lr_model.specs.History.{State, step}
 -- whether a call is made by the owner of this channel on its lock: only that of a fair lock has one
 abbrev pub is_own_call : ChannelOf → Op → Bool
 is_own_call channel op = is_fair channel.kind && same_channel channel (channel_of op)
+
+-- Whether a call is the owner's own, and about its place: a renewal is about its hold alone, and no
+-- place comes or goes by it.
+abbrev pub is_fair_renewal : FairCall → Bool
+is_fair_renewal (Renew owner lease) = true
+is_fair_renewal _ = false
+
+abbrev pub renews_fair : Call → Bool
+renews_fair (Fair call) = is_fair_renewal call
+renews_fair _ = false
+
+abbrev pub leaves_place : ChannelOf → Op → Bool
+leaves_place channel op = is_own_call channel op && not (renews_fair op.call)
 
 -- whether a call tries to take a fair lock
 abbrev pub is_fair_try : FairCall → Bool
@@ -45,11 +58,11 @@ stale_of (Some owner) name objects =
 abbrev pub stale_on : ChannelOf → Objects → Option ℕ
 stale_on channel objects = stale_of channel.owner channel.name objects
 
--- The place that the owner's last call left: when it goes stale, if there was one. No call of another
--- changes that.
+-- The place that the owner's last try, unlock or leave left: when it goes stale, if there was one. No
+-- call of another changes that.
 abbrev pub place_by_call : ChannelOf → State → ℕ → Op → Option ℕ → Option ℕ
 place_by_call channel state moment op left =
-    if is_own_call channel op then stale_on channel (objects_after state.objects moment op) else left
+    if leaves_place channel op then stale_on channel (objects_after state.objects moment op) else left
 
 abbrev pub place_by_act : ChannelOf → State → ℕ → Act → Option ℕ → Option ℕ
 place_by_act channel state moment (acts.Call op) left = place_by_call channel state moment op left

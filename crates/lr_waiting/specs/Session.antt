@@ -1,11 +1,11 @@
 -- The core of a client: the requests of its threads, its latches and its watches. A row of the step
 -- table is a function of one session, and gives none where the step doesn't apply. Threads of a
 -- client wait as in Redisson; the rules are this project's own.
-use Rattle.std.specs.Prelude.{ℕ, ◌+◌, ◌==◌, ◌/◌, List, length, Bool, true, false, ◌&&◌, ◌||◌, Option, Some, None, is_some, if◌then◌else◌}
-use Rattle.std.specs.Str.{bytes_eq}
+use Rattle.std.specs.Prelude.{ℕ, ◌+◌, ◌==◌, List, length, Bool, true, false, ◌&&◌, ◌||◌, Option, Some, None, if◌then◌else◌}
+use Rattle.std.specs.Option.{option_map}
 use Rattle.lr_limits.specs.Limits.{thread_limit}
 use Rattle.lr_names.specs.Channel.{ChannelOf}
-use Rattle.lr_names.specs.Owner.{ThreadOfClient, same_owner}
+use Rattle.lr_names.specs.Owner.{ThreadOfClient}
 use Rattle.lr_names.specs.declared.post.Due.{Due}
 use Rattle.lr_names.specs.declared.post.Due.TheVariants.{At, Never}
 use Rattle.lr_names.specs.declared.post.Push.{Push}
@@ -36,38 +36,34 @@ use Rattle.lr_waiting.specs.declared.waiter.Refusal.{Refusal}
 use Rattle.lr_waiting.specs.declared.waiter.Stage.{Stage}
 use Rattle.lr_waiting.specs.declared.waiter.Stage.TheVariants.{Fresh, Asked, Joining, Ready, Refused, Asleep, Leaving}
 use Rattle.lr_waiting.specs.declared.waiter.Waiter.{Waiter}
-use Rattle.lr_waiting.specs.declared.watch.Watch.{Watch}
+use Rattle.lr_waiting.specs.declared.watch.RenewFault.{RenewFault}
 use Rattle.lr_waiting.specs.declared.watch.WatchKey.{WatchKey}
 use Rattle.lr_waiting.specs.declared.watch.WatchKind.{WatchKind}
 use Rattle.lr_waiting.specs.declared.watch.WatchKind.TheVariants as watched
 use Rattle.lr_model.specs.Board.{same_channel, numbers_below}
 use Rattle.lr_waiting.specs.declared.latch.LatchEntry.{LatchEntry}
 use Rattle.lr_waiting.specs.Latch.{Latches, no_latches, count_on, next_count, is_subscribed, is_due, checked_in, woken_in, register_in, register_at, leave_at, acknowledge_in, acknowledge_at, deliver_at, after_check, after_waking, without_first_order}
+use Rattle.lr_waiting.specs.Watchdog.{Watchdog, first_watchdog, cut_watchdog, is_watched, watch_granted, watch_dropped, renew_fault, renewal_asked, renewal_taken, is_renewed}
 use Rattle.lr_model.specs.Table.{put}
 
--- a client's id, the lease of its watchdog, the requests of its threads, its latches, the last
--- ticket that it gave, the holds that it renews, how many of its grants were such, and whether it
--- was cut off
+-- a client's id, the requests of its threads, its latches, the last ticket that it gave, its
+-- watchdog, and whether it was cut off
 pub record Session : Type 0 where
   pub client : List ℕ
-  pub lease : ℕ
   pub waiters : ℕ → Option Waiter
   pub latches : Latches
   pub turn : ℕ
-  pub watches : WatchKey → Option Watch
-  pub generation : ℕ
+  pub watchdog : Watchdog
   pub is_cut : Bool
 
 -- a client before its first request
 abbrev pub first_session : List ℕ → ℕ → Session
 first_session client lease = record {
   client = client;
-  lease = lease;
   waiters = λ thread. None;
   latches = no_latches;
   turn = 0;
-  watches = λ key. None;
-  generation = 0;
+  watchdog = first_watchdog lease;
   is_cut = false;
 }
 
@@ -76,7 +72,7 @@ abbrev pub cut_session : Session → Session
 cut_session session = record session {
   waiters = λ thread. None;
   latches = no_latches;
-  watches = λ key. None;
+  watchdog = cut_watchdog session.watchdog;
   is_cut = true;
 }
 
@@ -156,49 +152,35 @@ of_waiter row (Some waiter) = row waiter
 
 -- Watches.
 
--- whether two watched holds are one
-abbrev pub watch_number : WatchKind → ℕ
-watch_number watched.Lock = 0
-watch_number watched.Fair = 1
-watch_number watched.Fenced = 2
-watch_number watched.Read = 3
-watch_number watched.Write = 4
-
-unfoldable pub same_watch : WatchKey → WatchKey → Bool
-same_watch a b =
-    same_owner a.owner b.owner && (watch_number a.kind == watch_number b.kind)
-    && bytes_eq a.name b.name
-
--- of a read-write lock, a function is about the hold to read or that to write
-abbrev pub access_watched : ReadWriteFunction → Option WatchKind
-access_watched read_write.Read = Some watched.Read
-access_watched read_write.UnlockRead = Some watched.Read
-access_watched read_write.Write = Some watched.Write
-access_watched read_write.UnlockWrite = Some watched.Write
-access_watched read_write.Renew = None
+-- Of a read-write lock, a function is about the hold to read or that to write. A renewal that a
+-- request is made of is of the hold to read.
+abbrev pub access_watched : ReadWriteFunction → WatchKind
+access_watched read_write.Read = watched.Read
+access_watched read_write.UnlockRead = watched.Read
+access_watched read_write.Write = watched.Write
+access_watched read_write.UnlockWrite = watched.Write
+access_watched read_write.Renew = watched.Read
 
 -- what kind of hold a function is about, where a watchdog can renew it
 abbrev pub watch_kind : Function → Option WatchKind
 watch_kind (functions.Lock function) = Some watched.Lock
 watch_kind (functions.Fair function) = Some watched.Fair
 watch_kind (functions.Fenced function) = Some watched.Fenced
-watch_kind (functions.ReadWrite function) = access_watched function
+watch_kind (functions.ReadWrite function) = Some (access_watched function)
 watch_kind _ = None
 
-abbrev pub watch_key : ThreadOfClient → List ℕ → Option WatchKind → Option WatchKey
-watch_key owner name None = None
-watch_key owner name (Some kind) =
-    Some (record { owner = owner; kind = kind; name = name })
-
 -- the hold that a request is about
+abbrev pub watch_key : ThreadOfClient → List ℕ → WatchKind → WatchKey
+watch_key owner name kind = record { owner = owner; kind = kind; name = name }
+
 abbrev pub key_in : Session → ℕ → Want → Option WatchKey
 key_in session thread want =
-    watch_key (owner_in session thread) want.name (watch_kind want.function)
+    option_map (watch_key (owner_in session thread) want.name) (watch_kind want.function)
 
--- whether a hold is renewed already
-abbrev pub is_watched : Session → Option WatchKey → Bool
-is_watched session None = false
-is_watched session (Some key) = is_some (session.watches key)
+-- whether that hold is renewed already
+abbrev pub is_watched_in : Session → Option WatchKey → Bool
+is_watched_in session None = false
+is_watched_in session (Some key) = is_watched session.watchdog key
 
 -- whether a lease is the watchdog's
 abbrev pub is_watch : Lease → Bool
@@ -208,33 +190,29 @@ is_watch (leases.For millis) = false
 -- whether a request gets the watchdog's lease: it says so, or its hold is renewed already
 abbrev pub asks_watched : Session → ℕ → Want → Bool
 asks_watched session thread want =
-    is_watch want.lease || is_watched session (key_in session thread want)
+    is_watch want.lease || is_watched_in session (key_in session thread want)
 
 -- the lease in milliseconds
 abbrev pub lease_in : Session → Lease → ℕ
-lease_in session leases.Watch = session.lease
+lease_in session leases.Watch = session.watchdog.lease
 lease_in session (leases.For millis) = millis
 
 abbrev pub lease_asked : Session → ℕ → Want → ℕ
 lease_asked session thread want =
-    if asks_watched session thread want then session.lease else lease_in session want.lease
+    if asks_watched session thread want then session.watchdog.lease
+    else lease_in session want.lease
 
--- a hold is renewed first when a third of the lease has passed since it was asked for
+abbrev pub with_watchdog : Watchdog → Session → Session
+with_watchdog watchdog session = record session { watchdog = watchdog }
+
 abbrev pub watch_begun : ℕ → Option WatchKey → Session → Session
 watch_begun at None session = session
 watch_begun at (Some key) session =
-    let generation = next_count session.generation in
-    record session {
-      watches = put same_watch session.watches key
-          (Some (record { due = at + session.lease / 3; generation = generation }));
-      generation = generation;
-    }
+    with_watchdog (watch_granted at key session.watchdog) session
 
--- a hold isn't renewed any longer
 abbrev pub watch_ended : Option WatchKey → Session → Session
 watch_ended None session = session
-watch_ended (Some key) session =
-    record session { watches = put same_watch session.watches key None }
+watch_ended (Some key) session = with_watchdog (watch_dropped key session.watchdog) session
 
 -- A grant under the watchdog's lease begins a watch. What was freed or isn't held needs none.
 abbrev pub watched_by : Reply → Asking → Option WatchKey → Session → Session
@@ -245,6 +223,23 @@ watched_by (replies.GrantedToken token) asking key session =
 watched_by replies.Freed asking key session = watch_ended key session
 watched_by replies.NotHeld asking key session = watch_ended key session
 watched_by _ asking key session = session
+
+-- a renewal is asked for, where its watch has fallen due and none is asked for
+abbrev pub renew_unless : Option RenewFault → ℕ → WatchKey → Session → Option Session
+renew_unless (Some fault) moment key session = None
+renew_unless None moment key session =
+    Some (with_watchdog (renewal_asked moment key session.watchdog) session)
+
+abbrev pub renew_row : WatchKey → ℕ → Session → Option Session
+renew_row key moment session =
+    renew_unless (renew_fault moment key session.watchdog) moment key session
+
+-- the reply to a renewal is taken, where one is asked for
+abbrev pub renewed_row : WatchKey → Reply → Session → Option Session
+renewed_row key reply session =
+    option_map
+    (λ renewal. with_watchdog (renewal_taken (is_renewed reply) key session.watchdog) session)
+    (session.watchdog.renewals key)
 
 -- The rows.
 

@@ -15,4 +15,4 @@ pub use latch::{Checked, LatchEntry, Order, Woken};
 pub use stand::{Stand, Standing};
 pub use told::{CheckedStep, GaveUp, Taken, WokenStep};
 pub use waiter::{Ask, Asking, Phase, Refusal, Stage, Waiter};
-pub use watch::{Watch, WatchKey, WatchKind};
+pub use watch::{RenewFault, RenewTaken, Renewal, Watch, WatchKey, WatchKind};

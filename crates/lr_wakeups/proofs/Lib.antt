@@ -21,6 +21,7 @@ pub mod Queued
 pub mod LatchFacts
 pub mod ThreadSteps
 pub mod Rows
+pub mod Renewals
 pub mod ServerSteps
 pub mod Stands
 pub mod Turns

@@ -20,11 +20,11 @@ use Rattle.lr_waiting.specs.declared.waiter.Refusal.{Refusal}
 use Rattle.lr_waiting.specs.declared.waiter.Stage.{Stage}
 use Rattle.lr_waiting.specs.declared.waiter.Stage.TheVariants.{Fresh, Asked, Joining, Ready, Refused, Asleep, Leaving}
 use Rattle.lr_waiting.specs.declared.waiter.Waiter.{Waiter}
-use Rattle.lr_waiting.specs.declared.watch.Watch.{Watch}
 use Rattle.lr_waiting.specs.declared.watch.WatchKey.{WatchKey}
 use Rattle.lr_model.specs.Board.{Connection}
 use Rattle.lr_waiting.specs.Latch.{is_subscribed, is_due, next_count, take_permit_at, register_in, register_at, leave_at, checked_in, woken_in}
-use Rattle.lr_waiting.specs.Session.{Session, owner_in, with_waiter, with_stage, with_ticket, with_latches, without_waiter, of_waiter, begin_at, begin_row, new_waiter, ask_at, ask_row, asking_for, leaving_want, leaving_function, may_wait, waits_for, channel_in, entry_for, key_in, is_joining_at, due_after, watch_begun, watch_ended, watched_by, refused, registered, take_at, take_row, checked, check_at, check_row, woken, wake_at, wake_row, fire_at, fire_row, given_up, quit, quit_at, quit_row}
+use Rattle.lr_waiting.specs.Watchdog.{Watchdog}
+use Rattle.lr_waiting.specs.Session.{Session, with_watchdog, owner_in, with_waiter, with_stage, with_ticket, with_latches, without_waiter, of_waiter, begin_at, begin_row, new_waiter, ask_at, ask_row, asking_for, leaving_want, leaving_function, may_wait, waits_for, channel_in, entry_for, key_in, is_joining_at, due_after, watch_begun, watch_ended, watched_by, refused, registered, take_at, take_row, checked, check_at, check_row, woken, wake_at, wake_row, fire_at, fire_row, given_up, quit, quit_at, quit_row}
 use Rattle.lr_waiting.specs.Client.{Client, waiter_in, client_row, with_reply, asked_at, asked_by, asked_of, take_with, take_reply}
 use Rattle.lr_wakeups.specs.Joining.{FitsStage, gives_up_at}
 use Rattle.lr_wakeups.specs.Queued.{IsLeftQueued}
@@ -60,7 +60,7 @@ facts_later n present client connection facts = record {
 }
 
 -- a row that applies
-applies : (row : Session → Option Session) (client after : Client) (P : Client → Type 0)
+pub applies : (row : Session → Option Session) (client after : Client) (P : Client → Type 0)
     → ((session : Session) → row client.session ≡ Some session
     → P (record client { session = session }))
     → client_row row client ≡ Some after → P after
@@ -86,21 +86,20 @@ of_request row client thread session P then_ applied = by (waiter_in client thre
 
 -- the watches that a reply changes: nothing else
 watched : (session : Session) (asking : Asking) (key : Option WatchKey) (P : Session → Type 0)
-    → ((watches : WatchKey → Option Watch) (generation : ℕ)
-    → P (record session { watches = watches; generation = generation }))
+    → ((watchdog : Watchdog) → P (with_watchdog watchdog session))
     → (reply : Reply) → P (watched_by reply asking key session)
 watched session asking key P then_ = by
   where
     same : P session
-    same = then_ session.watches session.generation
+    same = then_ session.watchdog
 
     begins : (k : Option WatchKey) → P (watch_begun asking.at k session)
     begins None = same
-    begins (Some k) = then_ _ _
+    begins (Some k) = then_ _
 
     ends : (k : Option WatchKey) → P (watch_ended k session)
     ends None = same
-    ends (Some k) = then_ _ session.generation
+    ends (Some k) = then_ _
 
     granted : (b : Bool) → P (if b then watch_begun asking.at key session else session)
     granted true = begins key
@@ -468,25 +467,22 @@ module _ (n : ℕ) (present : Present) (client : Client) (connection : Connectio
               else client.session)))
           by_registered true e =
               watched _ asking (key_in client.session thread waiter.want) Then
-              (λ watches generation.
+              (λ watchdog.
               then_later _
               (left n present client connection facts thread within waiter was None _
               (changes_both thread None None client
-              (record
+              (with_watchdog watchdog
               (with_latches
               (leave_at (channel_in client.session thread waiter) client.session.latches)
-              client.session) {
-                watches = watches;
-                generation = generation;
-              }) refl refl) refl e refl))
+              client.session)) refl refl) refl e refl))
               reply
           by_registered false e =
               watched _ asking (key_in client.session thread waiter.want) Then
-              (λ watches generation.
+              (λ watchdog.
               then_later _
               (ended n present client connection facts thread within waiter was None _
               (changes_both thread None None client
-              (record client.session { watches = watches; generation = generation }) refl refl)
+              (with_watchdog watchdog client.session) refl refl)
               refl e refl))
               reply
 

@@ -6,8 +6,8 @@ use Rattle.lr_names.specs.Channel.{ChannelOf}
 use Rattle.lr_objects.specs.declared.reply.Reply.{Reply}
 use Rattle.lr_waiting.specs.declared.waiter.Waiter.{Waiter}
 use Rattle.lr_model.specs.Table.{put}
-use Rattle.lr_waiting.specs.Session.{Session, first_session, with_waiter}
-use Rattle.lr_waiting.specs.Client.{Client, waiter_in}
+use Rattle.lr_waiting.specs.Session.{Session, with_waiter}
+use Rattle.lr_waiting.specs.Client.{Client, new_client, waiter_in}
 use Rattle.lr_waiting.specs.Stand.{awake_with, due_with}
 use Rattle.lr_wakeups.specs.Registered.{registered_with}
 use Rattle.lr_wakeups.specs.Standing.{blocked_with}
@@ -26,7 +26,7 @@ pub record ChangesThread (thread : ℕ) (found : Option Waiter) (reply : Option 
 pub changes_waiter : (thread : ℕ) (found : Option Waiter) (before : Client) (session : Session)
     → session.client ≡ before.session.client → session.waiters ≡ before.session.waiters
     → ChangesThread thread found (before.replies thread) before
-    (record { session = with_waiter thread found session; replies = before.replies })
+    (record before { session = with_waiter thread found session })
 changes_waiter thread found before session id same = record {
   id = id;
   waiter = put_here session.waiters thread found;
@@ -41,7 +41,7 @@ pub changes_both : (thread : ℕ) (found : Option Waiter) (reply : Option Reply)
     (session : Session)
     → session.client ≡ before.session.client → session.waiters ≡ before.session.waiters
     → ChangesThread thread found reply before
-    (record {
+    (record before {
       session = with_waiter thread found session;
       replies = put ◌==◌ before.replies thread reply;
     })
@@ -56,7 +56,7 @@ changes_both thread found reply before session id same = record {
 
 -- a client of which one reply is known
 abbrev pub alone : List ℕ → Option Reply → Client
-alone id reply = record { session = first_session id 0; replies = λ thread. reply }
+alone id reply = record (new_client id 0) { replies = λ thread. reply }
 
 -- a view of a thread that depends on nothing else
 abbrev pub IsLocal : {X : Type 0} → (Client → ℕ → Option Waiter → X) → Type 0

@@ -7,11 +7,13 @@ use Rattle.lr_objects.specs.declared.reply.Reply.{Reply}
 use Rattle.lr_waiting.specs.declared.latch.Order.{Order}
 use Rattle.lr_waiting.specs.declared.waiter.Asking.{Asking}
 use Rattle.lr_waiting.specs.declared.waiter.Waiter.{Waiter}
+use Rattle.lr_waiting.specs.declared.watch.WatchKey.{WatchKey}
 use Rattle.lr_names.specs.Channel.{ChannelOf}
 use Rattle.lr_model.specs.Board.{same_channel, Connection, is_overrun, connection_after_post, connection_after_drain}
 use Rattle.lr_waiting.specs.Latch.{first_order_of}
-use Rattle.lr_waiting.specs.Session.{owner_in, pushed, order_taken}
-use Rattle.lr_waiting.specs.Client.{Client, waiter_in, with_reply, asked_of}
+use Rattle.lr_waiting.specs.Watchdog.{Watchdog}
+use Rattle.lr_waiting.specs.Session.{with_watchdog, owner_in, pushed, order_taken}
+use Rattle.lr_waiting.specs.Client.{Client, waiter_in, with_reply, with_renewed, asked_of}
 use Rattle.lr_wakeups.specs.Orders.{connection_after_order}
 use Rattle.lr_wakeups.specs.Reached.{Present, GoesOn, IsLeftWaiting}
 use Rattle.lr_wakeups.specs.Queued.{IsLeftQueued, QueueGoesOn, NobodyIsBlocked}
@@ -48,6 +50,29 @@ ReplyKeepsFacts thread =
     → ((waiter : Waiter) → waiter_in client thread ≡ Some waiter
     → IsLeftQueued present (owner_in client.session thread) waiter asking reply)
     → Facts n present (with_reply thread (Some reply) client) connection
+
+-- a client with another watchdog, and with other replies to its renewals
+abbrev pub renewing : Watchdog → (WatchKey → Option Reply) → Client → Client
+renewing watchdog renewed client = record client {
+  session = with_watchdog watchdog client.session;
+  renewed = renewed;
+}
+
+-- no fact tells of these
+abbrev pub RenewalsKeepFacts : Type 0
+RenewalsKeepFacts =
+    (n : ℕ) (present : Present) (client : Client) (connection : Connection)
+    (watchdog : Watchdog) (renewed : WatchKey → Option Reply)
+    → Facts n present client connection
+    → Facts n present (renewing watchdog renewed client) connection
+
+-- the server has executed a renewal
+abbrev pub RenewedKeepsFacts : Type 0
+RenewedKeepsFacts =
+    (n : ℕ) (present : Present) (client : Client) (connection : Connection) (key : WatchKey)
+    (reply : Reply)
+    → Facts n present client connection
+    → Facts n present (with_renewed key (Some reply) client) connection
 
 -- the client takes the oldest item from its connection
 abbrev pub PushKeepsFacts : Type 0

@@ -23,8 +23,9 @@ use Rattle.lr_wakeups.specs.Joining.{is_queue_leave, gives_up_at}
 use Rattle.lr_wakeups.specs.Reached.{Present}
 use Rattle.lr_wakeups.specs.Standing.{is_blocked_at, is_blocked}
 
--- A place that an owner's last call left, and the moment at which the owner asks again by itself:
--- the place goes stale later than that, by as long as the next in the queue waits for it.
+-- A place that an owner's last try, unlock or leave left, and the moment at which the owner asks
+-- again by itself: the place goes stale later than that, by as long as the next in the queue waits
+-- for it.
 pub record HasPlace (left due : Option ℕ) : Type 0 where
   pub stale : ℕ
   pub moment : ℕ

@@ -30,7 +30,8 @@ use Rattle.lr_waiting.specs.Stand.{in_flight, due_at, due_by_reply, is_refused, 
 use Rattle.lr_wakeups.specs.Standing.{is_blocked_at}
 
 -- The objects, the moment, and the peak of each channel's object. Of the owner of each channel:
--- when the place goes stale that its last call left, and whether it was told since its last try.
+-- when the place goes stale that its last try, unlock or leave left, and whether it was told since
+-- its last try.
 pub record Present : Type 0 where
   pub objects : Objects
   pub now : ℕ

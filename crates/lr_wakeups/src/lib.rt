@@ -4,12 +4,17 @@
 #![tactic(auto)]
 
 mod peak_laws;
+mod renewal_laws;
 mod server_laws;
 mod stand_laws;
 mod start_laws;
 mod thread_laws;
 
 pub use peak_laws::{live_holds_end_by_the_peak, refused_calls_wait_until_the_peak};
+pub use renewal_laws::{
+    a_reply_to_a_renewal_keeps_the_facts, asking_for_a_renewal_keeps_the_facts,
+    renewals_keep_the_facts, taking_a_renewal_keeps_the_facts,
+};
 pub use server_laws::{
     a_message_keeps_the_facts, a_reply_keeps_the_facts, an_executed_order_keeps_the_facts,
     an_item_keeps_the_facts, going_on_keeps_the_facts,

@@ -4,10 +4,10 @@ use Rattle.std.proofs.lemmas.Result.{on_err_weaker, on_ok_weaker}
 use Rattle.lr_model.proofs.ReadWriteFacts.{none_some, some_one}
 use Rattle.lr_model.specs.declared.entry.Entry.{Entry}
 use Rattle.lr_machine.specs.declared.event.Event.{Event}
-use Rattle.lr_machine.specs.declared.event.Event.TheVariants.{Begin, Ask, Take, Check, Wake, Fire, Quit}
-use Rattle.lr_machine.specs.World.{World, clients_after, next, next_row}
-use Rattle.lr_waiting.specs.Client.{Client, client_row, take_reply}
-use Rattle.lr_waiting.specs.Session.{begin_row, ask_row, check_row, wake_row, fire_row, quit_row}
+use Rattle.lr_machine.specs.declared.event.Event.TheVariants.{Begin, Ask, Take, Check, Wake, Fire, Quit, RenewAsk, RenewTake}
+use Rattle.lr_machine.specs.World.{World, clients_after, hold_key, next, next_row}
+use Rattle.lr_waiting.specs.Client.{Client, client_row, take_renewed, take_reply}
+use Rattle.lr_waiting.specs.Session.{begin_row, ask_row, check_row, wake_row, fire_row, quit_row, renew_row}
 use Rattle.lr_clients.specs.Client.{ClientValue, clients_of}
 use Rattle.lr_clients.specs.Rows.{client_alone, row_by}
 use Rattle.lr_world.specs.World.{world_with}
@@ -32,6 +32,10 @@ next-alone world (Wake c t) client is = row-at world (client_row (wake_row t)) c
 next-alone world (Fire c t) client is =
     row-at world (client_row (fire_row t world.moment)) c client is
 next-alone world (Quit c t) client is = row-at world (client_row (quit_row t)) c client is
+next-alone world (RenewAsk c t kind name) client is =
+    row-at world (client_row (renew_row (hold_key c t kind name) world.moment)) c client is
+next-alone world (RenewTake c t kind name) client is =
+    row-at world (take_renewed (hold_key c t kind name)) c client is
 next-alone world _ client is = absurd (none_some client (sym is))
 
 -- the world whose clients these are

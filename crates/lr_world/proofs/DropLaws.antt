@@ -7,6 +7,8 @@ use Rattle.lr_model.specs.Board.{Board, board_after_post}
 use Rattle.lr_model.specs.History.{State, after, call_entry, step}
 use Rattle.lr_waiting.specs.Client.{Client}
 use Rattle.lr_machine.specs.Clients.{client_at}
+use Rattle.lr_machine.specs.declared.shown.Shown.TheVariants as shows
+use Rattle.lr_machine.specs.Shown.{replied_at}
 use Rattle.lr_machine.specs.Sound.{AreConnected}
 use Rattle.lr_machine.specs.World.{clients_dropped, cut_among, dropped_at, first_state, with_cut, with_entry as with_entry_in}
 use Rattle.lr_machine_laws.proofs.Closes.{AreClosable, AreClosable-closed, AreClosable-dropped, AreDistinct, AreDistinct-dropped}
@@ -76,6 +78,18 @@ module _ (server now : ServerValue) (moment caller conn : ℕ) (op : Op) (called
       let same : (after first_state now.entries).moment ≡ moment =
       ap (λ (s : State). s.moment) state_after in
       omega (arith, same)
+
+  -- what is shown of it
+  pub called-shown : shows.Replied (record {
+    reply = called.reply;
+    post = called.post;
+    cut = map client_at called.dropped;
+  }) ≡ shows.Replied (replied_at state moment op)
+  called-shown = λ i. shows.Replied (record {
+    reply = is.reply i;
+    post = is.post i;
+    cut = dropped_is i;
+  })
 
   -- the world after it
   pub called-world : (clients : ℕ → Client)

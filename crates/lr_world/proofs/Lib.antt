@@ -6,3 +6,4 @@ pub mod CallLaws
 pub mod CutLaws
 pub mod DropLaws
 pub mod OrderLaws
+pub mod RenewalLaws

@@ -4,6 +4,7 @@ use Rattle.lr_limits.specs.Limits.{client_limit, event_limit, last_moment}
 use Rattle.lr_model.specs.declared.entry.Entry.{Entry}
 use Rattle.lr_machine.specs.Sound.{IsInOrder, clients_left}
 use Rattle.lr_machine.specs.World.{World}
+use Rattle.lr_machine_renewals.specs.WatchFacts.{HaveWatches}
 use Rattle.lr_machine_wakeups.specs.WorldFacts.{HaveFacts}
 use Rattle.lr_clients.specs.Client.{ClientValue, clients_of}
 
@@ -24,12 +25,14 @@ abbrev pub world_of : WorldValue → World
 world_of value = world_with value.entries value.moment value.clients
 
 -- What is true of every world: its server began with the connections 0 to 128, its history is in
--- order, and the facts that carry the wakeups are so of each client. Each event made one entry of
--- the history at most, and each client that is left may make two more, when it is cut off.
+-- order, and the facts that carry the wakeups and the renewals are so of each client. Each event made
+-- one entry of the history at most, and each client that is left may make two more, when it is cut
+-- off.
 pub record IsWorld (last : ℕ) (value : WorldValue) : Type 0 where
   pub first : last ≡ 128
   pub in_order : IsInOrder (world_of value)
   pub facts : HaveFacts value.applied (world_of value)
+  pub watches : HaveWatches value.applied (world_of value)
   pub early : value.moment ≤ last_moment
   pub few : length value.entries + 2 * clients_left client_limit (world_of value).clients
       ≤ value.applied + 128

@@ -1,27 +1,28 @@
-//! What the server does for a thread or an operator, and the end of a client.
+//! What the server does for a thread, a watchdog or an operator, and the end of a client.
 ghost use Rattle.std.specs.Prelude.{◌≡◌, ◌<◌, ◌≤◌, length, map, IfOk, OnOk, OnErr};
 ghost use Rattle.lr_limits.specs.Limits.{entry_limit, last_moment};
 ghost use Rattle.lr_names.specs.Owner.{IsThread};
 ghost use Rattle.lr_model.specs.History.{after};
 ghost use Rattle.lr_machine.specs.declared.shown.Shown.TheVariants as shows;
 ghost use Rattle.lr_machine.specs.Clients.{client_at, operator, operator_connection};
-ghost use Rattle.lr_machine.specs.Shown.{found_at, shown_call, shown_cut, shown_exec};
+ghost use Rattle.lr_machine.specs.Shown.{found_at, shown_call, shown_cut, shown_exec, shown_renew};
 ghost use Rattle.lr_machine.specs.Sound.{IsInOrder};
 ghost use Rattle.lr_machine.specs.Within.{IsClient};
-ghost use Rattle.lr_machine.specs.World.{asking_of, first_state, force_of, next_cut, next_exec, with_call, with_cut};
+ghost use Rattle.lr_machine.specs.World.{asking_of, first_state, force_of, next_cut, next_exec, next_renewal, renewing_in, with_call, with_cut};
 ghost use Rattle.lr_clients.specs.Client.{clients_of};
 ghost use Rattle.lr_world.specs.Cuts.{AreOpen};
 ghost use Rattle.lr_world.specs.World.{world_with};
 
 use crate::call::{Called, call};
 use crate::cuts::{cut_all, cut_client};
-use crate::numbers::{caller, command_connection};
+use crate::numbers::{caller, client_caller, command_connection};
+use crate::orders::found_for;
 use lr_clients::ClientTable;
 use lr_machine::{Clients, Found, Replied, Shown, ThreadId};
 use lr_names::Name;
 use lr_objects::{Call, LockCall, Op};
 use lr_server::ServerState;
-use lr_waiting::Phase;
+use lr_waiting::{Phase, WatchKey};
 use std::alloc::AllocError;
 
 /// The number under which an operator calls, and its connection.
@@ -58,6 +59,40 @@ pub(crate) fn exec(
     let connection = command_connection(id.client);
     let called = call(server, moment, caller(id), connection, &asking.op)?;
     clients.answer(id, called.reply);
+    Ok(cut_dropped(server, clients, moment, called))
+}
+
+/// The server executes the renewal of a hold that a client has asked for. After an error the world
+/// is the same.
+pub(crate) fn renew(
+    server: &mut ServerState,
+    clients: &mut ClientTable,
+    moment: u64,
+    client: u32,
+    key: &WatchKey,
+) -> Result<Shown, AllocError>
+    requires client { IsClient client }
+    requires first { server.old.last ≡ 128 }
+    requires in_order { IsInOrder (world_with server.old.entries moment clients.old) }
+    requires room { length server.old.entries < entry_limit }
+    requires early { moment ≤ last_moment }
+    ensures shown { let world = world_with server.old.entries moment clients.old in
+        IfOk result (λ shown. shown
+        ≡ shown_renew world client key.now (renewing_in world client key.now)) }
+    ensures next { let world = world_with server.old.entries moment clients.old in
+        OnOk result (world_with server.new.entries moment clients.new
+        ≡ next_renewal world client key.now (renewing_in world client key.now)) }
+    ensures last { server.new.last ≡ server.old.last }
+    ensures server_err { OnErr result (server.new ≡ server.old) }
+    ensures clients_err { OnErr result (clients_of clients.new ≡ clients_of clients.old) }
+{
+    let Some(op) = clients.renewal(client, key) else {
+        return Ok(Shown::No(found_for(clients, client, Found::Renewal)));
+    };
+    clients.reserve_renewed(client)?;
+    let connection = command_connection(client);
+    let called = call(server, moment, client_caller(client), connection, &op)?;
+    clients.answer_renewal(client, key, called.reply);
     Ok(cut_dropped(server, clients, moment, called))
 }
 

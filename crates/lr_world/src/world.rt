@@ -2,6 +2,7 @@ ghost use Rattle.std.specs.Prelude.{◌≡◌, ◌<◌, ◌≤◌, ◌+◌, ◌+
 ghost use Rattle.lr_limits.specs.Limits.{event_limit, entry_limit, last_moment};
 ghost use Rattle.lr_model.specs.History.{deeds_of};
 ghost use Rattle.lr_machine.specs.Deeds.{deeds_of_event};
+ghost use Rattle.lr_machine.specs.Renewals.{RenewsInTime};
 ghost use Rattle.lr_machine.specs.Shown.{shown, standings_of};
 ghost use Rattle.lr_machine.specs.Sound.{IsInOrder, IsSound};
 ghost use Rattle.lr_machine.specs.Within.{IsWithin, MayBegin};
@@ -10,11 +11,11 @@ ghost use Rattle.lr_machine_wakeups.specs.Throughout.{NoWakeupIsLost};
 ghost use Rattle.lr_clients.specs.Rows.{client_alone};
 ghost use Rattle.lr_world.specs.World.{world_of, world_with};
 
-use crate::events::{cut, exec, force};
+use crate::events::{cut, exec, force, renew};
 use crate::items::push;
 use crate::orders::sub;
 use crate::stands::standings;
-use lr_clients::ClientTable;
+use lr_clients::{ClientTable, hold_key};
 use lr_limits::LAST_MOMENT;
 use lr_machine::{Event, Shown, Standings, ThreadId};
 use lr_server::{History, ServerState};
@@ -92,6 +93,9 @@ impl World {
         // Whatever is told to stand for a sleeping thread is never nothing, and no timer that is too
         // late: later than the peak of its lock, or later than now where it waits for permits.
         ensures awake { NoWakeupIsLost (world_of self.new) }
+        // A hold that is watched and live falls due two thirds of the watchdog's lease before its
+        // end, so that it is renewed in time.
+        ensures renews { RenewsInTime (world_of self.new) }
         // Each event makes one entry at most, and two for each client that is cut off, so that no
         // event finds a full history.
         ensures few { length self.new.entries ≤ self.new.applied + 128 }
@@ -113,6 +117,14 @@ impl World {
         ensures { IfOk result (λ s. s ≡ standings_of (world_of self.now)) }
     {
         standings(self.alloc, &self.server, &self.clients, self.moment)
+    }
+
+    /// The moment now, in milliseconds.
+    pub fn moment(&self) -> u64
+        ensures value { result ≡ self.now.moment }
+        ensures early { result ≤ last_moment }
+    {
+        self.moment
     }
 
     /// What the server has done, in order.
@@ -152,7 +164,7 @@ fn run(
     serve(alloc, server, clients, moment, event)
 }
 
-// The client of an event that is a step of one of its threads, which nobody else notices.
+// The client of an event that is a step of its own, which nobody else notices.
 fn client_alone(event: &Event) -> Option<u32>
     ensures { result ≡ client_alone event.now }
 {
@@ -163,18 +175,21 @@ fn client_alone(event: &Event) -> Option<u32>
         | Event::Check { client, .. }
         | Event::Wake { client, .. }
         | Event::Fire { client, .. }
-        | Event::Quit { client, .. } => Some(client),
+        | Event::Quit { client, .. }
+        | Event::RenewAsk { client, .. }
+        | Event::RenewTake { client, .. } => Some(client),
         Event::Exec { .. }
         | Event::Sub { .. }
         | Event::Push { .. }
         | Event::Tick(_)
+        | Event::RenewExec { .. }
         | Event::Force(_)
         | Event::Cut { .. }
         | Event::Show => None,
     }
 }
 
-// What an event does that isn't a step of a thread.
+// What an event does that isn't a step of one client alone.
 fn serve(
     alloc: Global,
     server: &mut ServerState,
@@ -206,6 +221,15 @@ fn serve(
         Event::Tick(reading) => {
             *moment = (*moment).max(reading.min(LAST_MOMENT));
             Ok(Shown::Moment(*moment))
+        }
+        Event::RenewExec {
+            client,
+            thread,
+            kind,
+            name,
+        } => {
+            let key = hold_key(client, thread, kind, name);
+            renew(server, clients, *moment, client, &key)
         }
         Event::Force(name) => force(server, clients, *moment, name),
         Event::Cut { client } => Ok(cut(server, clients, *moment, client)),

@@ -8,6 +8,10 @@ mod fair;
 #[cfg(test)]
 mod latch;
 #[cfg(test)]
+mod renewals;
+#[cfg(test)]
 mod session;
+#[cfg(test)]
+mod watch;
 #[cfg(test)]
 mod world;

@@ -9,3 +9,5 @@ mod fair;
 mod stories;
 #[cfg(test)]
 mod waiting;
+#[cfg(test)]
+mod watching;

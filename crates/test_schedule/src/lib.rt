@@ -2,4 +2,6 @@
 #![tactic(auto)]
 
 #[cfg(test)]
+mod renewals;
+#[cfg(test)]
 mod schedule;

@@ -16,7 +16,7 @@ use uuid::Uuid;
 
 const ID: &str = "00000000-0000-0000-0000-0000000000ff";
 
-const BAD_LINES: [&str; 37] = [
+const BAD_LINES: [&str; 36] = [
     "",
     "ask 1",
     "ask 1 1 ",
@@ -41,7 +41,6 @@ const BAD_LINES: [&str; 37] = [
     "begin 1 1 once fair_leave a 30000",
     "begin 1 1 once fair_renew a 30000",
     "begin 1 1 once fair_try a",
-    "begin 1 1 once lock_try a watch",
     "begin 1 1 once lock_try a:b 30000",
     "begin 1 1 once sem_try a 0",
     "begin 1 1 once sem_try a 1000000001",
@@ -132,7 +131,7 @@ const REASONS: [(&str, &str); 14] = [
     ),
     (
         "begin 1 1 once lock_try a",
-        "there is no lease; leases are milliseconds, 0 to 18446744073709551615, \
+        "there is no lease; leases are watch, or milliseconds, 0 to 18446744073709551615, \
          with no leading zeros (word 7 of ",
     ),
     (
@@ -146,7 +145,7 @@ const REASONS: [(&str, &str); 14] = [
     ),
     (
         "begin 1 1 once fair_try a",
-        "there is no lease; leases are milliseconds, 0 to 18446744073709551615, \
+        "there is no lease; leases are watch, or milliseconds, 0 to 18446744073709551615, \
          with no leading zeros (word 7 of ",
     ),
     (
@@ -166,8 +165,8 @@ const REASONS: [(&str, &str); 14] = [
     ),
     (
         "",
-        "there is no event; events begin with begin, ask, exec, take, check, wake, fire, quit, sub, \
-         push, tick, force, cut, show (word 1 of ",
+        "there is no event; events begin with begin, ask, exec, take, check, wake, fire, quit, \
+         sub, push, tick, rask, rexec, rtake, force, cut, show (word 1 of ",
     ),
     (
         "ask 1  1",
@@ -183,11 +182,13 @@ const REASONS: [(&str, &str); 14] = [
     ),
 ];
 
-fn is_event(line: &str, event: Event) -> bool {
+/// Whether a line is read to this event.
+pub fn is_event(line: &str, event: Event) -> bool {
     read_line(MOST_EVENTS, line.as_bytes()) == ScheduleLine::Event(event)
 }
 
-fn want(name: Name) -> Want {
+/// A try of the lock with this name, for half a minute.
+pub fn want(name: Name) -> Want {
     Want {
         function: Function::Lock(LockFunction::Try),
         name,
@@ -197,7 +198,8 @@ fn want(name: Name) -> Want {
     }
 }
 
-fn begins(line: &str, mode: Mode, want: &Want) -> bool {
+/// Whether a line is read to this request of client 64's thread 256.
+pub fn begins(line: &str, mode: Mode, want: &Want) -> bool {
     is_event(
         line,
         Event::Begin {
@@ -359,7 +361,8 @@ fn lines_are_read(rt: HostRuntime) -> Result<(), Fail> {
     Ok(())
 }
 
-fn writes(out: &mut Text, number: u64, shown: &Shown, line: &str) -> Result<bool, AllocError> {
+/// Whether this line is written for what is shown.
+pub fn writes(out: &mut Text, number: u64, shown: &Shown, line: &str) -> Result<bool, AllocError> {
     out.clear();
     write_shown(out, number, shown)?;
     Ok(out.as_slice() == line.as_bytes())
@@ -609,8 +612,13 @@ fn lists_are_written(rt: HostRuntime) -> Result<(), Fail> {
     Ok(())
 }
 
-// Whether the explanation of a line is a number, a reason, and the line as it is shown.
-fn is_explained(alloc: Global, line: &[u8], reason: &str, shown: &str) -> Result<bool, AllocError> {
+/// Whether the explanation of a line is a number, a reason, and the line as it is shown.
+pub fn is_explained(
+    alloc: Global,
+    line: &[u8],
+    reason: &str,
+    shown: &str,
+) -> Result<bool, AllocError> {
     let text = format!(in alloc; "line 1000001: {reason}{shown})")?;
     Ok(explain(alloc, MOST_EVENTS + 1, line)?.as_slice() == text.as_bytes())
 }

@@ -1,4 +1,3 @@
-use Rattle.std.proofs.Common.{◌≡◌}
 use Rattle.lr_turnstile.specs.Passes.{view}
 use Rattle.lr_drill.specs.Passes.{HasMade}
 use Rattle.lr_drill.proofs.passes.make_calls.Given as goal

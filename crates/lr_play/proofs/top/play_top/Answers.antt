@@ -1,5 +1,6 @@
 use Rattle.lr_machine_laws.proofs.Schedules.{goes_well}
 use Rattle.lr_machine_wakeups.proofs.Schedules.{none_lost_throughout}
+use Rattle.lr_machine_renewals.proofs.Schedules.{renewed_throughout}
 use Rattle.lr_play.proofs.Progress.{nothing_written}
 use Rattle.lr_play.proofs.Ends.{completes, end_of_play}
 use Rattle.lr_play.proofs.top.play_top.Goals as goal
@@ -21,6 +22,15 @@ returns-in-Ok-clause-awake g c = none_lost_throughout
 
 pub returns-in-Err-clause-awake : goal.returns-in-Err-clause-awake
 returns-in-Err-clause-awake g c = none_lost_throughout
+
+pub returns-then-not-is_play-clause-renews : goal.returns-then-not-is_play-clause-renews
+returns-then-not-is_play-clause-renews g c = renewed_throughout
+
+pub returns-in-Ok-clause-renews : goal.returns-in-Ok-clause-renews
+returns-in-Ok-clause-renews g c = renewed_throughout
+
+pub returns-in-Err-clause-renews : goal.returns-in-Err-clause-renews
+returns-in-Err-clause-renews g c = renewed_throughout
 
 pub returns-in-Ok-clause-complete : goal.returns-in-Ok-clause-complete
 returns-in-Ok-clause-complete g c = λ all before events words left held are no_read no_write.

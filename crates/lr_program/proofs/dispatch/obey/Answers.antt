@@ -15,3 +15,17 @@ returns-in-Race-clause-ends g c = λ play.
     let is = (c.in-Race.ensures.race c.in-Race.threads c.in-Race.calls).0 refl in
     let text = is.text in
     absurd cc
+
+pub drill-requires : goal.drill-requires
+drill-requires g c = ((c.in-Drill.ensures.drill c.in-Drill.number c.in-Drill.events).0 refl).size
+
+pub returns-in-Drill-clause-usage : goal.returns-in-Drill-clause-usage
+returns-in-Drill-clause-usage g c =
+    let is = (c.in-Drill.ensures.drill c.in-Drill.number c.in-Drill.events).0 refl in
+    (λ e. absurd (c.drill.ensures.not_usage e), λ none. absurd (none.4 _ _ is))
+
+pub returns-in-Drill-clause-ends : goal.returns-in-Drill-clause-ends
+returns-in-Drill-clause-ends g c = λ play.
+    let is = (c.in-Drill.ensures.drill c.in-Drill.number c.in-Drill.events).0 refl in
+    let text = is.text in
+    absurd cc

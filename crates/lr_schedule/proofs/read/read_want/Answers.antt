@@ -21,7 +21,7 @@ returns-clause-none c = λ failed want rest can spelled is.
       number = spelled.number;
       id = spelled.id;
       amount = can.amount;
-      own_lease = can.lease;
+      watched = can.lease;
     } in
     c.read_arguments.ensures.none failed want rest
     (subst (λ (a : Arguments). IsGiven a want) (sym args) given)

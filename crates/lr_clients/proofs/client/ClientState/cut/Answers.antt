@@ -5,5 +5,9 @@ use Rattle.lr_clients.proofs.client.ClientState.cut.Goals as goal
 
 pub returns : goal.returns
 returns c =
-    (λ i. record { session = c.cut.ensures.session i; replies = c.clear.ensures i })
+    (λ i. record {
+      session = c.cut.ensures.session i;
+      replies = c.clear.ensures i;
+      renewed = c.clear-2.ensures i;
+    })
     ∙ ap (λ (value : ClientValue). cut_client (client_of value)) c.self.view_is

@@ -13,7 +13,11 @@ use Rattle.lr_clients.proofs.client.ClientState.wake.Goals as goal
 pub returns-in-Err-clause-shown : goal.returns-in-Err-clause-shown
 returns-in-Err-clause-shown c =
     let old : Client =
-    client_of (record { session = c.self.inside.session; replies = c.self.inside.replies }) in
+    client_of (record {
+      session = c.self.inside.session;
+      replies = c.self.inside.replies;
+      renewed = c.self.inside.renewed;
+    }) in
     c.not_now.ensures
     ∙ ap (λ (s : Session). shows.No (found_in (record old { session = s }) c.args.thread))
     c.in-Err.ensures.err

@@ -5,6 +5,7 @@ use Rattle.lr_machine.specs.Shown.{shown}
 use Rattle.lr_machine.specs.World.{World, next}
 use Rattle.lr_machine_laws.proofs.Growth.{deeds_of-next}
 use Rattle.lr_machine_laws.proofs.Schedules.{IsSound-from_order}
+use Rattle.lr_machine_renewals.proofs.Worlds.{renewed-in_time, watches-next}
 use Rattle.lr_machine_wakeups.proofs.Schedules.{none_lost}
 use Rattle.lr_machine_wakeups.proofs.Worlds.{kept-next}
 use Rattle.lr_world.specs.World.{IsWorld, WorldValue, world_of, world_with}
@@ -42,6 +43,12 @@ returns-in_err-shown-clause-awake c =
     none_lost c.self.inside.applied
     (world_with c.run.new.server.entries c.run.new.moment c.run.new.clients) (err_world c).facts
 
+pub returns-in_err-shown-clause-renews : goal.returns-in_err-shown-clause-renews
+returns-in_err-shown-clause-renews c =
+    renewed-in_time c.self.inside.applied
+    (world_with c.run.new.server.entries c.run.new.moment c.run.new.clients)
+    (err_world c).watches
+
 -- where it took place
 
 ok_world : (c : goal.After-self-1) → IsWorld c.run.new.server.last
@@ -54,7 +61,7 @@ ok_world c =
     c.self.inside.applied)
     (value_with c.run.new.server.entries c.run.new.moment c.run.new.clients
     (c.self.inside.applied + 1))
-    c.args.event.now kept-next c.requires.within c.self.invariant
+    c.args.event.now kept-next watches-next c.requires.within c.self.invariant
     (omega (arith, c.requires.room, ap (λ (v : WorldValue). v.applied) c.self.view_is))
     done.last done.next done.early refl
 
@@ -89,6 +96,12 @@ pub returns-clause-awake : goal.returns-clause-awake
 returns-clause-awake c =
     none_lost (c.self.inside.applied + 1)
     (world_with c.run.new.server.entries c.run.new.moment c.run.new.clients) (ok_world c).facts
+
+pub returns-clause-renews : goal.returns-clause-renews
+returns-clause-renews c =
+    renewed-in_time (c.self.inside.applied + 1)
+    (world_with c.run.new.server.entries c.run.new.moment c.run.new.clients)
+    (ok_world c).watches
 
 pub returns-clause-few : goal.returns-clause-few
 returns-clause-few c =

@@ -1,0 +1,11 @@
+pub mod Alone
+pub mod Begins
+pub mod Blames
+pub mod Bulk
+pub mod Complete
+pub mod One
+pub mod Reached
+pub mod Readings
+pub mod Taken
+pub mod Turns
+pub mod Written

@@ -1,0 +1,15 @@
+pub mod Limits
+pub mod Spelling
+pub mod Size
+pub mod SizeFalls
+pub mod Grammar
+pub mod Opened
+pub mod Scan
+pub mod Steps
+pub mod Spelled
+pub mod Sound
+pub mod Stream
+pub mod Next
+pub mod Causes
+pub mod Turns
+pub mod Laws

@@ -1,0 +1,5 @@
+pub mod DueLemmas
+pub mod Places
+pub mod Rows
+pub mod SameWatch
+pub mod Watchdogs
