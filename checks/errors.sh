@@ -41,8 +41,6 @@ all() {
     refused 'rexec 1 1 lock'
     refused 'rtake 1 257 lock a'
     refused 'wake 1'
-    refused 'rask 1 1 mutex a'
-    refused 'begin 1 1 once permit_try a 00000000-0000-0000-0000-0000000000ff watch'
     refused 'push 65'
     refused 'show 1'
     refused "$(long_line)"

@@ -39,6 +39,14 @@ A schedule has one event on each line, as words with single spaces between them:
              is busy, short or a count above 0, it goes on. It is joining until its client hears the
              object's channel, and ready once it does; then it asks again. Where the reply is such a
              one again it is refused: it sleeps next, at most until the moment that is shown.
+  rask C T KIND NAME
+             the client asks for the renewal of the hold of its thread T, which was taken with watch
+             and has fallen due. KIND is lock, fair, fenced, read or write.
+  rexec C T KIND NAME
+             the server executes the renewal: the hold lasts for 30 seconds from now, or is lost.
+  rtake C T KIND NAME
+             the client takes the reply: due, with the moment of the next renewal; ended, where the
+             hold was lost; or stale, where the hold isn't that for which the renewal was asked.
   tick M     the clock shows M, in milliseconds. It begins at 0, and never goes back.
   force NAME an operator takes the lock away from whoever holds it.
 
@@ -68,13 +76,15 @@ that sent its call before.
              timer and its own moment. Where none sleeps: none.
 
 Where an event doesn't apply nothing changes. Its line shows no and what was found: the phase of
-the thread (idle, fresh, asked, answered, joining, ready, refused, asleep, leaving), cut, orders or
-pushes.
+the thread (idle, fresh, asked, answered, joining, ready, refused, asleep, leaving), cut, orders,
+pushes, or of a renewal watch (the hold isn't watched), renewing (one is under way), due (it is too
+early) or renewal (none was asked for, or none executed).
 For a client that doesn't read the server keeps 16384 items; with the next it is cut off.
 
 A FUNCTION is called with the NAME of an object (letters, digits, _, . and -), and, as is shown
-here, a LEASE in milliseconds, a number N from 1 to 1000000000, or an ID, a UUID. These work
-today:
+here, a LEASE in milliseconds, a number N from 1 to 1000000000, or an ID, a UUID. A LEASE may be
+watch, but for that of a permit: it is 30 seconds then, and the client renews the hold each 10
+seconds, until it is given back. These work today:
 
   lock_try NAME LEASE       takes the lock for LEASE, where it is free or the thread holds it.
   lock_unlock NAME LEASE    gives a hold back. Where more are left, they last for LEASE from now.
@@ -119,6 +129,10 @@ three wait in the queue of a fair lock:
   ./lockd play < examples/two_shops.txt
   ./lockd play < examples/gate_opens_for_all.txt
   ./lockd play < examples/queue_of_three.txt
+
+One in which a worker outlives its lease, since its client renews it, until that client dies:
+
+  ./lockd play < examples/outlives_its_lease.txt
 
 A race of two threads that make three calls each:
 
