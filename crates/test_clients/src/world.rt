@@ -147,7 +147,15 @@ fn is_executed(world: &mut World, name: Name) -> bool
     let run = shown(world, &executed);
     matches!(early, Some(Shown::No(Found::Due)))
         && matches!(due, Some(Shown::RenewAsked))
-        && matches!(run, Some(Shown::Replied(replied)) if replied.reply == Reply::Renewed)
+        && is_renewed(&run)
+}
+
+// Whether the server has renewed a hold.
+fn is_renewed(shown: &Option<Shown>) -> bool {
+    match shown {
+        Some(Shown::Replied(replied)) => replied.reply == Reply::Renewed,
+        _ => false,
+    }
 }
 
 // Whether the client takes the reply, and the hold falls due next at 20,000 ms.
