@@ -1,8 +1,10 @@
-//! What a connection asks of the server. Looks into its state and pings come with the wire form.
+//! What a connection asks of the server: calls, looks at its keys, channels, pings.
 #![tactic(auto)]
 
 mod channels;
+mod look;
 mod request;
 
 pub use channels::Channels;
+pub use look::Look;
 pub use request::Request;
