@@ -1,4 +1,4 @@
-ghost use Rattle.std.specs.Prelude.{◌≡◌, ◌+◌, ◌%◌, ◌^◌, ◌++◌, IfOk, OnOk, OnErr, length, ◌≤◌};
+ghost use Rattle.std.specs.Prelude.{◌≡◌, ◌↔◌, ◌+◌, ◌%◌, ◌^◌, [], ◌++◌, IsTrue, IfOk, OnOk, OnErr, length, ◌≤◌};
 ghost use Rattle.lr_resp.specs.Limits.{frame_limit};
 ghost use Rattle.lr_resp.specs.Stream.{begun};
 ghost use Rattle.lr_resp.specs.Next.{NextIs};
@@ -125,6 +125,13 @@ impl Decoder {
             self.unread.clear();
         }
         self.unread.extend_from_slice(piece)
+    }
+
+    /// Whether the stream stands between frames: all that came is read.
+    pub fn is_empty(&self) -> bool
+        ensures { IsTrue result ↔ (self.now.unread ≡ []) }
+    {
+        self.place.size == 0 && self.unread.is_empty()
     }
 
     /// The next frame of the stream. `More` and `Broken` leave the decoder as it was, and after
