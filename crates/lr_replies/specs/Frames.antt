@@ -26,5 +26,5 @@ IsReply _ = Unit {0}
 
 -- the function may answer this reply, and this is its frame
 pub record IsFrameOf (frame : Frame) (function : Function) (reply : Reply) : Type 0 where
-  pub reply : IsReply reply
-  pub frame : frame_of function reply ≡ Some frame
+  pub made : IsReply reply
+  pub has : frame_of function reply ≡ Some frame

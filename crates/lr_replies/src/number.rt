@@ -17,12 +17,12 @@ fn signed(number: &Integer) -> i64
 }
 
 // A number that isn't negative: `None` exactly where it is.
-pub fn natural(number: i64) -> Option<Integer>
-    ensures some { IfSome result (λ natural. number ≡ pos natural) }
-    ensures none { IsNone result → (natural : ℕ) → number ≢ pos natural }
+pub fn natural(number: &i64) -> Option<Integer>
+    ensures some { IfSome result (λ natural. number.now ≡ pos natural) }
+    ensures none { IsNone result → (natural : ℕ) → number.now ≢ pos natural }
 {
-    if number < 0 {
+    if *number < 0 {
         return None;
     }
-    Some(Integer::new(number as u64))
+    Some(Integer::new(*number as u64))
 }

@@ -43,7 +43,7 @@ impl Shape {
     {
         match frame {
             Frame::Null => Some(Shape::Null),
-            Frame::Number(value) => Some(Shape::Number(number::natural(*value)?)),
+            Frame::Number(value) => Some(Shape::Number(number::natural(value)?)),
             Frame::Array(items) => Some(Shape::Token(token::of_items(items)?)),
             Frame::Fault(text) => Some(Shape::Refused(Refusal::of_text(text.as_slice())?)),
             Frame::Simple(_) | Frame::Bulk(_) | Frame::NullArray => None,

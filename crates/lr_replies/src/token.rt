@@ -49,7 +49,7 @@ fn natural(frame: &Frame) -> Option<Integer>
         → spelling frame.now ≢ spelling (Frame.Number (pos natural)) }
 {
     match frame {
-        Frame::Number(number) => number::natural(*number),
+        Frame::Number(number) => number::natural(number),
         _ => None,
     }
 }
