@@ -37,7 +37,7 @@ impl Shape {
 
     // What a frame is: `None` exactly where no reply has it.
     pub fn of_frame(frame: &Frame) -> Option<Shape>
-        ensures some { IfSome result (λ shape. frame.now ≡ frame_with shape) }
+        ensures some { IfSome result (λ shape. IsShape shape × (frame.now ≡ frame_with shape)) }
         ensures none { IsNone result → (shape : Shape) → IsShape shape
             → frame.now ≢ frame_with shape }
     {
