@@ -103,9 +103,10 @@ token_length n small =
     omega (arith, short, null, last, digits, whole)
 
 token_readable : (n : ℕ) → n < 2 ^ 63 → IsReadable (frames.Array (token_items n))
-token_readable n small =
-    (omega arith,
-    ((frames.Null, tt, refl), ((frames.Number (pos n), number_readable n small, refl), tt)))
+token_readable n small = (
+  omega arith,
+  ((frames.Null, tt, refl), ((frames.Number (pos n), number_readable n small, refl), tt)),
+)
 
 refusal_readable : (refusal : Refusal)
     → Spells (spelling (frames.Fault (refusal_text refusal))) (frames.Fault (refusal_text refusal))
@@ -140,9 +141,9 @@ pub frame_from : (frame : Frame) (function : Function) (shape : Shape) (reply : 
 frame_from frame function shape reply made is read =
     let looking = found_looks (role_of function) shape reply (reply_of (role_of function) shape)
     (looks_so (role_of function) shape) read in
-    record
-    { made = made
-    ; has = ap (option_map frame_with) looking ∙ ap (λ (f : Frame). Some f) (sym is)
+    record {
+      made = made;
+      has = ap (option_map frame_with) looking ∙ ap (λ (f : Frame). Some f) (sym is);
     }
 
 -- where a frame looks like no reply, it is none's

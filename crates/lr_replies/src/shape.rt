@@ -1,9 +1,8 @@
 ghost use Rattle.std.specs.Prelude.{◌≡◌, ◌≢◌, IsNone, IfOk, IfSome};
 ghost use Rattle.lr_replies.specs.Shapes.{IsShape, frame_with};
 
-use crate::number;
 use crate::refusal::Refusal;
-use crate::token;
+use crate::{number, token};
 use lr_objects::Integer;
 use lr_resp::Frame;
 use lr_text::Text;
