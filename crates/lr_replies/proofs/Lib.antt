@@ -1,0 +1,4 @@
+pub mod FrameLaws
+pub mod RefusalLaws
+pub mod Spellings
+pub mod Tables

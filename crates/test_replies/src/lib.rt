@@ -1,0 +1,5 @@
+//! Tests of the frames of replies.
+#![tactic(auto)]
+
+#[cfg(test)]
+mod rows;
