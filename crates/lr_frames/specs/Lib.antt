@@ -5,4 +5,5 @@ pub mod Said
 pub mod OpWords
 pub mod Faults
 pub mod Read
+pub mod Made
 pub mod Laws

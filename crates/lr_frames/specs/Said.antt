@@ -1,5 +1,6 @@
 -- The function of each call, and what it is given: a line for each. This project's own.
 use Rattle.std.specs.Prelude.{true, false}
+use Rattle.lr_objects.specs.declared.access.Access.{Access}
 use Rattle.lr_objects.specs.declared.access.Access.TheVariants as accesses
 use Rattle.lr_objects.specs.declared.kinds.Function.TheVariants as functions
 use Rattle.lr_objects.specs.declared.kinds.Call.{Call}
@@ -12,6 +13,7 @@ use Rattle.lr_objects.specs.declared.fair.FairCall.TheVariants as fair
 use Rattle.lr_objects.specs.declared.fair.FairFunction.TheVariants as fairs
 use Rattle.lr_objects.specs.declared.read_write.ReadWriteCall.{ReadWriteCall}
 use Rattle.lr_objects.specs.declared.read_write.ReadWriteCall.TheVariants as read_write
+use Rattle.lr_objects.specs.declared.read_write.ReadWriteFunction.{ReadWriteFunction}
 use Rattle.lr_objects.specs.declared.read_write.ReadWriteFunction.TheVariants as read_writes
 use Rattle.lr_objects.specs.declared.fenced.FencedCall.{FencedCall}
 use Rattle.lr_objects.specs.declared.fenced.FencedCall.TheVariants as fenced
@@ -46,15 +48,19 @@ fair_said (fair.Unlock owner rest) = said (functions.Fair fairs.Unlock) (given_l
 fair_said (fair.Leave owner) = said (functions.Fair fairs.Leave) (given_owner owner)
 fair_said (fair.Renew owner lease) = said (functions.Fair fairs.Renew) (given_lease owner lease)
 
+abbrev pub take_function : Access → ReadWriteFunction
+take_function accesses.Read = read_writes.Read
+take_function accesses.Write = read_writes.Write
+
+abbrev pub unlock_function : Access → ReadWriteFunction
+unlock_function accesses.Read = read_writes.UnlockRead
+unlock_function accesses.Write = read_writes.UnlockWrite
+
 abbrev pub read_write_said : ReadWriteCall → Said
-read_write_said (read_write.Take accesses.Read owner lease) =
-    said (functions.ReadWrite read_writes.Read) (given_lease owner lease)
-read_write_said (read_write.Take accesses.Write owner lease) =
-    said (functions.ReadWrite read_writes.Write) (given_lease owner lease)
-read_write_said (read_write.Unlock accesses.Read owner rest) =
-    said (functions.ReadWrite read_writes.UnlockRead) (given_lease owner rest)
-read_write_said (read_write.Unlock accesses.Write owner rest) =
-    said (functions.ReadWrite read_writes.UnlockWrite) (given_lease owner rest)
+read_write_said (read_write.Take access owner lease) =
+    said (functions.ReadWrite (take_function access)) (given_lease owner lease)
+read_write_said (read_write.Unlock access owner rest) =
+    said (functions.ReadWrite (unlock_function access)) (given_lease owner rest)
 read_write_said (read_write.Renew access owner lease) =
     said (functions.ReadWrite read_writes.Renew) (owned owner lease false access)
 

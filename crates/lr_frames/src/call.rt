@@ -4,12 +4,14 @@ ghost use Rattle.lr_objects.specs.Function.{function_word};
 ghost use Rattle.lr_objects.specs.Op.{IsCall};
 ghost use Rattle.lr_frames.specs.Faults.{IsCallFault, IsNoFunction, IsOpFault, IsWordsFault, Fits};
 ghost use Rattle.lr_frames.specs.Given.{given_words};
+ghost use Rattle.lr_frames.specs.Made.{made_op, made_renewal, made_wanted};
 ghost use Rattle.lr_frames.specs.OpWords.{op_function, op_words, op_given, key_count, fcall_words, IsSaid, IsOpOf};
 ghost use Rattle.lr_frames.specs.Shape.{shape_of};
 
 use crate::fault::OpFault;
 use crate::given::Given;
 use crate::read::{name_of, read_given};
+use crate::said::check_op;
 use crate::shape::Shape;
 use crate::words::Words;
 use lr_names::Name;
@@ -96,26 +98,33 @@ fn read_words(function: Function, words: &Words<'_>) -> Result<Op, OpFault>
     }
     let name = name_of(words.word(0))?;
     let given = read_given(shape, words)?;
-    Ok(op_of(function, &name, &given))
+    Ok(said_op(function, &name, &given))
 }
 
 // The call of a function on the object with this name, with what it is given.
-fn op_of(function: Function, name: &Name, given: &Given) -> Op
+fn said_op(function: Function, name: &Name, given: &Given) -> Op
     ensures function { op_function result ≡ function }
     ensures words { op_words result ≡ name.now ∷ given_words (shape_of function) given.now }
     ensures said { IsSaid result }
 {
-    let op = match function {
-        Function::ReadWrite(ReadWriteFunction::Renew) => renewal(name, given),
-        _ => wanted(function, name, given),
-    };
-    // What the types of its parts say of it.
-    let _name = op.name();
+    let op = op_of(function, name, given);
+    check_op(&op);
     op
 }
 
+fn op_of(function: Function, name: &Name, given: &Given) -> Op
+    ensures { result ≡ made_op function name.now given.now }
+{
+    match function {
+        Function::ReadWrite(ReadWriteFunction::Renew) => renewal(name, given),
+        _ => wanted(function, name, given),
+    }
+}
+
 // The one call that a want doesn't tell whole.
-fn renewal(name: &Name, given: &Given) -> Op {
+fn renewal(name: &Name, given: &Given) -> Op
+    ensures { result ≡ made_renewal name.now given.now }
+{
     Op {
         name: *name,
         call: Call::ReadWrite(ReadWriteCall::Renew {
@@ -126,7 +135,9 @@ fn renewal(name: &Name, given: &Given) -> Op {
     }
 }
 
-fn wanted(function: Function, name: &Name, given: &Given) -> Op {
+fn wanted(function: Function, name: &Name, given: &Given) -> Op
+    ensures { result ≡ made_wanted function name.now given.now }
+{
     let want = Want {
         function,
         name: *name,

@@ -5,7 +5,7 @@ ghost use Rattle.lr_frames.specs.OpWords.{call_words, IsSaid};
 ghost use Rattle.lr_frames.specs.Words.{words_frame};
 
 use crate::call::ONE_KEY;
-use crate::said::Said;
+use crate::said::{Said, check_op};
 use crate::sentence::Sentence;
 use crate::shape::Shape;
 use lr_objects::Op;
@@ -21,14 +21,6 @@ pub fn call_frame(alloc: Global, op: &Op) -> Result<Frame, AllocError>
 {
     check_op(op);
     written(alloc, op)
-}
-
-// What the types of its parts say of a call.
-fn check_op(op: &Op)
-    ensures { IsSaid op.now }
-{
-    let _name = op.name();
-    let _said = Said::of(&op.call);
 }
 
 fn written(alloc: Global, op: &Op) -> Result<Frame, AllocError>

@@ -1,11 +1,12 @@
 ghost use Rattle.std.specs.Prelude.{◌≡◌};
-ghost use Rattle.lr_frames.specs.Said.{call_said, lock_said, fair_said, read_write_said, fenced_said, semaphore_said, permit_said, countdown_said};
+ghost use Rattle.lr_frames.specs.Said.{call_said, lock_said, fair_said, read_write_said, fenced_said, semaphore_said, permit_said, countdown_said, take_function, unlock_function};
+ghost use Rattle.lr_frames.specs.OpWords.{IsSaid};
 
 use crate::given::Given;
 use lr_objects::{
     Access, Call, CountdownCall, CountdownFunction, FairCall, FairFunction, FencedCall,
-    FencedFunction, Function, LockCall, LockFunction, PermitCall, PermitFunction, ReadWriteCall,
-    ReadWriteFunction, SemaphoreCall, SemaphoreFunction,
+    FencedFunction, Function, LockCall, LockFunction, Op, PermitCall, PermitFunction,
+    ReadWriteCall, ReadWriteFunction, SemaphoreCall, SemaphoreFunction,
 };
 
 /// A call as a request tells it: the function, and what it is given beside the object.
@@ -32,6 +33,14 @@ impl Said {
             Call::Countdown(call) => countdown(call),
         }
     }
+}
+
+/// What the types of its parts say of a call: nothing is done here.
+pub fn check_op(op: &Op)
+    ensures { IsSaid op.now }
+{
+    let _name = op.name();
+    let _said = Said::of(&op.call);
 }
 
 fn lock(call: &LockCall) -> Said
@@ -106,14 +115,18 @@ fn read_write(call: &ReadWriteCall) -> Said
     }
 }
 
-fn take(access: Access) -> ReadWriteFunction {
+fn take(access: Access) -> ReadWriteFunction
+    ensures { result ≡ take_function access }
+{
     match access {
         Access::Read => ReadWriteFunction::Read,
         Access::Write => ReadWriteFunction::Write,
     }
 }
 
-fn unlock(access: Access) -> ReadWriteFunction {
+fn unlock(access: Access) -> ReadWriteFunction
+    ensures { result ≡ unlock_function access }
+{
     match access {
         Access::Read => ReadWriteFunction::UnlockRead,
         Access::Write => ReadWriteFunction::UnlockWrite,

@@ -1,9 +1,9 @@
-ghost use Rattle.std.specs.Prelude.{◌≡◌, ◌≢◌, ◌<◌, ◌≤◌, ◌↔◌, ℕ, List, Some, length, drop, slice_get, IsTrue, IsNone, IfSome};
+ghost use Rattle.std.specs.Prelude.{◌≡◌, ◌≢◌, ◌<◌, ◌≤◌, ◌↔◌, ℕ, List, Some, length, drop, map, slice_get, IsTrue, IsNone, IfSome};
 ghost use Rattle.std.specs.List.{list_all};
-ghost use Rattle.lr_frames.specs.Words.{AreShort, words_frame, word_at, is_bulk, bulk_text};
+ghost use Rattle.lr_resp.specs.Spelling.{spelling};
+ghost use Rattle.lr_frames.specs.Words.{AreShort, words_frame, bulk_word, word_at, is_bulk, bulk_text};
 
 use lr_resp::Frame;
-use std::cmp;
 use std::marker::Model;
 
 /// The words of a request, or those behind some of them: bulk strings, in order.
@@ -39,7 +39,12 @@ impl<'a> Words<'a> {
         }
     }
 
-    fn of_items(items: &'a [Frame]) -> Option<Words<'a>> {
+    fn of_items(items: &'a [Frame]) -> Option<Words<'a>>
+        ensures words { IfSome result (λ words. map spelling items.now ≡ map bulk_word words) }
+        ensures some { IfSome result (λ words. 0 < length words) }
+        ensures none { IsNone result → (words : List (List ℕ)) → AreShort words
+            → 0 < length words → map spelling items.now ≢ map bulk_word words }
+    {
         if items.is_empty() || !are_bulks(items) {
             return None;
         }
@@ -86,8 +91,17 @@ impl<'a> Words<'a> {
         ensures { result ≡ drop count self.now }
     {
         Words {
-            items: &self.items[cmp::min(count, self.items.len())..],
+            items: behind(self.items, count),
         }
+    }
+}
+
+fn behind(items: &[Frame], count: usize) -> &[Frame]
+    ensures { result.now ≡ drop count items.now }
+{
+    match items.get(count..) {
+        Some(rest) => rest,
+        None => &[],
     }
 }
 

@@ -1,0 +1,4 @@
+pub mod BulkLaws
+pub mod GivenLaws
+pub mod OpLaws
+pub mod FaultLaws
