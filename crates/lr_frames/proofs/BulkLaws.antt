@@ -54,9 +54,9 @@ mark_of b c xs ys same = ap (λ (l : List ℕ). get_or l 0 0) same
 
 pub bulk_alone : (frame : Frame) (text : List ℕ) → length text ≤ bulk_limit
     → spelling frame ≡ bulk_word text → is_bulk frame ≡ true
-bulk_alone (Bulk own) text short same = refl
-bulk_alone (Simple own) text short same = absurd (omega (arith, mark_of 43 36 _ _ same))
-bulk_alone (Fault own) text short same = absurd (omega (arith, mark_of 45 36 _ _ same))
+bulk_alone (Bulk its) text short same = refl
+bulk_alone (Simple its) text short same = absurd (omega (arith, mark_of 43 36 _ _ same))
+bulk_alone (Fault its) text short same = absurd (omega (arith, mark_of 45 36 _ _ same))
 bulk_alone (Number n) text short same = absurd (omega (arith, mark_of 58 36 _ _ same))
 bulk_alone NullArray text short same = absurd (omega (arith, mark_of 42 36 _ _ same))
 bulk_alone (Array frames) text short same = absurd (omega (arith, mark_of 42 36 _ _ same))
@@ -64,8 +64,8 @@ bulk_alone Null text short same =
     let small : length text < 2 ^ 64 = omega (arith, short) in
     let dash : 45 ≡ get_or (decimal (length text) ++ (line_end ++ (text ++ line_end))) 0 0 =
         ap (λ (l : List ℕ). get_or l 1 0) same in
-    not_dash (length text) small
-        (sym (first_of (decimal (length text)) (line_end ++ (text ++ line_end)) (decimal_nonempty (length text) small)) ∙ sym dash)
+    absurd (not_dash (length text) small
+        (sym (first_of (decimal (length text)) (line_end ++ (text ++ line_end)) (decimal_nonempty (length text) small)) ∙ sym dash))
 
 pub heads : (x y : List ℕ) (xs ys : List (List ℕ)) → x ∷ xs ≡ y ∷ ys → (x ≡ y) × (xs ≡ ys)
 heads x y xs ys same = (ap (λ (l : List (List ℕ)). get_or l 0 []) same, ap (λ (l : List (List ℕ)). drop 1 l) same)

@@ -178,12 +178,87 @@ words_numbered Number name given is = (given.number, is, refl)
 words_numbered Id name given is = tt
 words_numbered IdLease name given is = (given.lease, is.1, refl)
 
+owner_brief : (owner : ThreadOfClient) → IsOwner owner → length (owner_text owner) ≤ 64
+owner_brief owner is = omega (arith, length-owner_text owner is.thread)
+
+id_brief : (id : List ℕ) → length (id_text id) ≤ 64
+id_brief id = omega (arith, length-id_text id)
+
+number_brief : (number : ℕ) → number < 2 ^ 64 → length (decimal number) ≤ 64
+number_brief number small = omega (arith, (length-decimal number small).1)
+
+queue_brief : (queue : Bool) → length (queue_word queue) ≤ 64
+queue_brief true = omega arith
+queue_brief false = omega arith
+
+access_brief : (access : Access) → length (access_word access) ≤ 64
+access_brief Read = omega arith
+access_brief Write = omega arith
+
 -- Words that were read one by one are those of what is given.
 
-none_left : (words : List (List ℕ)) → length words ≡ 0 → words ≡ []
-none_left [] none = refl
-none_left (word ∷ words) none = absurd (omega (arith, none))
+pub are_words : (shape : Shape) (words : List (List ℕ)) (given : Given) → Fits shape words
+    → IsGiven shape words given → words ≡ word_at words 0 ∷ given_words shape given
+are_words Nothing (a ∷ []) given fits is = refl
+are_words Owner (a ∷ b ∷ []) given fits is = ap (λ (l : List ℕ). a ∷ l ∷ []) is
+are_words OwnerLease (a ∷ b ∷ c ∷ []) given fits is =
+    ap (λ (l : List ℕ). a ∷ l ∷ c ∷ []) is.0
+    ∙ ap (λ (l : List ℕ). a ∷ owner_text given.owner ∷ l ∷ []) is.1
+are_words OwnerLeaseQueue (a ∷ b ∷ c ∷ d ∷ []) given fits is =
+    ap (λ (l : List ℕ). a ∷ l ∷ c ∷ d ∷ []) is.0
+    ∙ ap (λ (l : List ℕ). a ∷ owner_text given.owner ∷ l ∷ d ∷ []) is.1
+    ∙ ap (λ (l : List ℕ). a ∷ owner_text given.owner ∷ decimal given.lease ∷ l ∷ []) is.2
+are_words OwnerModeLease (a ∷ b ∷ c ∷ d ∷ []) given fits is =
+    ap (λ (l : List ℕ). a ∷ l ∷ c ∷ d ∷ []) is.0
+    ∙ ap (λ (l : List ℕ). a ∷ owner_text given.owner ∷ l ∷ d ∷ []) is.1
+    ∙ ap (λ (l : List ℕ). a ∷ owner_text given.owner ∷ access_word given.access ∷ l ∷ []) is.2
+are_words Number (a ∷ b ∷ []) given fits is = ap (λ (l : List ℕ). a ∷ l ∷ []) is
+are_words Id (a ∷ b ∷ []) given fits is = ap (λ (l : List ℕ). a ∷ l ∷ []) is
+are_words IdLease (a ∷ b ∷ c ∷ []) given fits is =
+    ap (λ (l : List ℕ). a ∷ l ∷ c ∷ []) is.0
+    ∙ ap (λ (l : List ℕ). a ∷ id_text given.id ∷ l ∷ []) is.1
+are_words Nothing [] given fits is = absurd (omega (arith, fits))
+are_words Nothing (a ∷ b ∷ l) given fits is = absurd (omega (arith, fits))
+are_words Owner [] given fits is = absurd (omega (arith, fits))
+are_words Owner (a ∷ []) given fits is = absurd (omega (arith, fits))
+are_words Owner (a ∷ b ∷ c ∷ l) given fits is = absurd (omega (arith, fits))
+are_words OwnerLease [] given fits is = absurd (omega (arith, fits))
+are_words OwnerLease (a ∷ []) given fits is = absurd (omega (arith, fits))
+are_words OwnerLease (a ∷ b ∷ []) given fits is = absurd (omega (arith, fits))
+are_words OwnerLease (a ∷ b ∷ c ∷ d ∷ l) given fits is = absurd (omega (arith, fits))
+are_words OwnerLeaseQueue [] given fits is = absurd (omega (arith, fits))
+are_words OwnerLeaseQueue (a ∷ []) given fits is = absurd (omega (arith, fits))
+are_words OwnerLeaseQueue (a ∷ b ∷ []) given fits is = absurd (omega (arith, fits))
+are_words OwnerLeaseQueue (a ∷ b ∷ c ∷ []) given fits is = absurd (omega (arith, fits))
+are_words OwnerLeaseQueue (a ∷ b ∷ c ∷ d ∷ e ∷ l) given fits is = absurd (omega (arith, fits))
+are_words OwnerModeLease [] given fits is = absurd (omega (arith, fits))
+are_words OwnerModeLease (a ∷ []) given fits is = absurd (omega (arith, fits))
+are_words OwnerModeLease (a ∷ b ∷ []) given fits is = absurd (omega (arith, fits))
+are_words OwnerModeLease (a ∷ b ∷ c ∷ []) given fits is = absurd (omega (arith, fits))
+are_words OwnerModeLease (a ∷ b ∷ c ∷ d ∷ e ∷ l) given fits is = absurd (omega (arith, fits))
+are_words Number [] given fits is = absurd (omega (arith, fits))
+are_words Number (a ∷ []) given fits is = absurd (omega (arith, fits))
+are_words Number (a ∷ b ∷ c ∷ l) given fits is = absurd (omega (arith, fits))
+are_words Id [] given fits is = absurd (omega (arith, fits))
+are_words Id (a ∷ []) given fits is = absurd (omega (arith, fits))
+are_words Id (a ∷ b ∷ c ∷ l) given fits is = absurd (omega (arith, fits))
+are_words IdLease [] given fits is = absurd (omega (arith, fits))
+are_words IdLease (a ∷ []) given fits is = absurd (omega (arith, fits))
+are_words IdLease (a ∷ b ∷ []) given fits is = absurd (omega (arith, fits))
+are_words IdLease (a ∷ b ∷ c ∷ d ∷ l) given fits is = absurd (omega (arith, fits))
 
-more_left : (words : List (List ℕ)) (n : ℕ) → length words ≡ suc n → words ≡ word_at words 0 ∷ drop 1 words
-more_left [] n some = absurd (omega (arith, some))
-more_left (word ∷ words) n some = refl
+-- They are brief.
+pub given_brief : (shape : Shape) (given : Given) → IsSound shape given
+    → (length (given_words shape given) ≤ 3) × AllByRecursion (λ text. length text ≤ 64) (given_words shape given)
+given_brief Nothing given is = (omega arith, tt)
+given_brief Owner given is = (omega arith, (owner_brief given.owner is, tt))
+given_brief OwnerLease given is =
+    (omega arith, (owner_brief given.owner is.0, (number_brief given.lease is.1, tt)))
+given_brief OwnerLeaseQueue given is =
+    (omega arith, (owner_brief given.owner is.0, (number_brief given.lease is.1, (queue_brief given.queue, tt))))
+given_brief OwnerModeLease given is =
+    (omega arith, (owner_brief given.owner is.0, (access_brief given.access, (number_brief given.lease is.1, tt))))
+given_brief Number given is = (omega arith, (number_brief given.number (omega (arith, is.1)), tt))
+given_brief Id given is = (omega arith, (id_brief given.id, tt))
+given_brief IdLease given is =
+    (omega arith, (id_brief given.id, (number_brief given.lease is.1, tt)))

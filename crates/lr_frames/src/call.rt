@@ -71,10 +71,16 @@ fn read_keyed(words: &Words<'_>) -> Result<Op, OpFault>
         return Err(OpFault::WrongArguments);
     }
     let function = function_of(words.word(0))?;
-    if words.word(1) != ONE_KEY {
+    if !is_one_key(words.word(1)) {
         return Err(OpFault::WrongArguments);
     }
     read_words(function, &words.behind(2))
+}
+
+fn is_one_key(word: &[u8]) -> bool
+    ensures { IsTrue result ↔ (word.now ≡ key_count) }
+{
+    word == ONE_KEY
 }
 
 fn function_of(word: &[u8]) -> Result<Function, OpFault>

@@ -45,7 +45,10 @@ impl<'a> Words<'a> {
         ensures none { IsNone result → (words : List (List ℕ)) → AreShort words
             → 0 < length words → map spelling items.now ≢ map bulk_word words }
     {
-        if items.is_empty() || !are_bulks(items) {
+        if items.is_empty() {
+            return None;
+        }
+        if !are_bulks(items) {
             return None;
         }
         Some(Words { items })
