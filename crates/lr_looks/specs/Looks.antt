@@ -2,7 +2,7 @@
 use Rattle.std.specs.Prelude.{ℕ, ℤ, List, [], ◌∷◌, length, map, max, Option, Some, None, is_some, Bool, Result, Ok, Err, codes}
 use Rattle.std.specs.Fmt.{signed_decimal}
 use Rattle.lr_commands.specs.declared.look.Look.{Look}
-use Rattle.lr_commands.specs.declared.look.Look.TheVariants.{Exists, Type as TypeOf, TimeLeft, Get, HashGet, HashExists, HashGetAll, ListLength, SortedCount, ListRange, SortedRange, SortedScore}
+use Rattle.lr_commands.specs.declared.look.Look.TheVariants.{Exists, «Type» as TypeOf, TimeLeft, Get, HashGet, HashExists, HashGetAll, ListLength, SortedCount, ListRange, SortedRange, SortedScore}
 use Rattle.lr_keys.specs.declared.fault.KeyFault.{KeyFault}
 use Rattle.lr_keys.specs.declared.value_kind.ValueKind.{ValueKind}
 use Rattle.lr_keys.specs.declared.value_kind.ValueKind.TheVariants.{Hash, List as ListKind, Zset, Counter}

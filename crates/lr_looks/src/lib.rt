@@ -1,6 +1,7 @@
 //! What looks at the keys and pings are answered, as frames of RESP2.
 #![tactic(auto)]
 
+mod answers;
 mod looks;
 mod pings;
 mod seen;

@@ -1,9 +1,10 @@
 //! What of the keys is seen at a moment that may be later than theirs.
 ghost use Rattle.std.specs.Prelude.{◌≡◌, ◌≤◌, IfSome, IfNone, None};
-ghost use Rattle.lr_keys.specs.KeySpace.{entry_at, time_left};
+ghost use Rattle.lr_keys.specs.KeySpace.{entry_at, hash_at, time_left, zset_at};
+ghost use Rattle.lr_looks.specs.Looks.{number_of, score_in};
 ghost use Rattle.lr_looks.specs.Seen.{seen_entry};
 
-use lr_keys::KeySpace;
+use lr_keys::{KeyFault, KeySpace};
 use lr_text::{Brief, Text};
 
 /// The milliseconds that are left of a key at a moment that isn't before that of the keys: -2 where
@@ -33,4 +34,40 @@ pub(crate) fn find(keys: &KeySpace, moment: u64, key: &Text) -> Option<Brief>
         return None;
     }
     Some(key)
+}
+
+/// The number of a field of a hash, if the field is there. `WrongKind` where the key holds another
+/// kind of value, however long the field is.
+pub(crate) fn number_of(
+    keys: &KeySpace,
+    key: &Brief,
+    field: &Text,
+) -> Result<Option<i64>, KeyFault>
+    ensures { result ≡ number_of field.now (hash_at (entry_at keys.now key.now)) }
+{
+    if let Some(field) = Brief::of(field.as_slice()) {
+        return keys.hget(key, &field);
+    }
+    match keys.hget(key, &Brief::new()) {
+        Ok(_) => Ok(None),
+        Err(fault) => Err(fault),
+    }
+}
+
+/// The score of a member of a sorted set, if the member is there. `WrongKind` where the key holds
+/// another kind of value, however long the member is.
+pub(crate) fn score_in(
+    keys: &KeySpace,
+    key: &Brief,
+    member: &Text,
+) -> Result<Option<u64>, KeyFault>
+    ensures { result ≡ score_in member.now (zset_at (entry_at keys.now key.now)) }
+{
+    if let Some(member) = Brief::of(member.as_slice()) {
+        return keys.zscore(key, &member);
+    }
+    match keys.zscore(key, &Brief::new()) {
+        Ok(_) => Ok(None),
+        Err(fault) => Err(fault),
+    }
 }

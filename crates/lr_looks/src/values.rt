@@ -1,11 +1,14 @@
 //! Numbers, texts and lists of texts as frames.
 ghost use Rattle.std.specs.Prelude.{◌≡◌, [], ◌∷◌, ◌++◌, IfOk, OnOk};
+ghost use Rattle.std.specs.Fmt.{signed_decimal};
 ghost use Rattle.lr_resp.specs.declared.frame.Frame.TheVariants.{Bulk};
 ghost use Rattle.lr_looks.specs.Bulks.{bulks_frame, count_frame, decimal_frame, flag_frame, signed_frame};
+ghost use Rattle.lr_looks.specs.Looks.{member_names, pair_texts};
 
 use itoa::Buffer;
+use lr_keys::{Fields, Members};
 use lr_resp::{Frame, Frames};
-use lr_text::{Items, Text};
+use lr_text::{Brief, Items, Text};
 use std::alloc::{AllocError, Global};
 
 /// These texts as an array of bulk strings. It takes memory for the frame.
@@ -29,6 +32,43 @@ pub(crate) fn push_bulk(
 {
     frames.push(Frame::Bulk(Text::of(alloc, text)?))?;
     Ok(())
+}
+
+// Appends a field and its number in decimal, each as a bulk string.
+fn push_pair(
+    alloc: Global,
+    frames: &mut Vec<Frame>,
+    field: &Brief,
+    number: i64,
+) -> Result<(), AllocError>
+    ensures { OnOk result (frames.new.items
+        ≡ frames.old.items ++ Bulk field.now ∷ Bulk (signed_decimal number) ∷ []) }
+{
+    let mut digits = Buffer::new();
+    push_bulk(alloc, frames, field.as_slice())?;
+    push_bulk(alloc, frames, digits.format(number).as_bytes())
+}
+
+/// The fields of a hash, each followed by its number in decimal, as an array of bulk strings.
+pub(crate) fn fields(alloc: Global, pairs: &Fields) -> Result<Frame, AllocError>
+    ensures { IfOk result (λ frame. frame ≡ bulks_frame (pair_texts pairs.now.items)) }
+{
+    let mut frames = Vec::new(alloc);
+    for (field, number) in pairs {
+        push_pair(alloc, &mut frames, field, *number)?;
+    }
+    Ok(Frame::Array(Frames::of(frames)))
+}
+
+/// The members of a sorted set, without their scores, as an array of bulk strings.
+pub(crate) fn members(alloc: Global, members: &Members) -> Result<Frame, AllocError>
+    ensures { IfOk result (λ frame. frame ≡ bulks_frame (member_names members.now.items)) }
+{
+    let mut frames = Vec::with_capacity(alloc, members.len())?;
+    for (member, _) in members {
+        push_bulk(alloc, &mut frames, member.as_slice())?;
+    }
+    Ok(Frame::Array(Frames::of(frames)))
 }
 
 /// A signed number in decimal as a bulk string, and null for none.
