@@ -38,12 +38,12 @@ pub(crate) fn push_bulk(
 fn push_pair(
     alloc: Global,
     frames: &mut Vec<Frame>,
-    field: &Brief,
-    number: i64,
+    pair: &(Brief, i64),
 ) -> Result<(), AllocError>
     ensures { OnOk result (frames.new.items
-        ≡ frames.old.items ++ Bulk field.now ∷ Bulk (signed_decimal number) ∷ []) }
+        ≡ frames.old.items ++ Bulk pair.now.0 ∷ Bulk (signed_decimal pair.now.1) ∷ []) }
 {
+    let (field, number) = *pair;
     let mut digits = Buffer::new();
     push_bulk(alloc, frames, field.as_slice())?;
     push_bulk(alloc, frames, digits.format(number).as_bytes())
@@ -54,8 +54,8 @@ pub(crate) fn fields(alloc: Global, pairs: &Fields) -> Result<Frame, AllocError>
     ensures { IfOk result (λ frame. frame ≡ bulks_frame (pair_texts pairs.now.items)) }
 {
     let mut frames = Vec::new(alloc);
-    for (field, number) in pairs {
-        push_pair(alloc, &mut frames, field, *number)?;
+    for pair in pairs {
+        push_pair(alloc, &mut frames, pair)?;
     }
     Ok(Frame::Array(Frames::of(frames)))
 }

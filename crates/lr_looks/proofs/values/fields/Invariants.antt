@@ -3,5 +3,5 @@ use Rattle.lr_looks.specs.Bulks.{bulk_list}
 use Rattle.lr_looks.specs.Looks.{pair_texts}
 use Rattle.lr_looks.proofs.values.fields.Given as goal
 
-abbrev pub invariant-loop-field : goal.invariant-loop-field
-invariant-loop-field l = l.frames.items ≡ bulk_list (pair_texts (take l.field-index l.field-items))
+abbrev pub invariant-loop-pair : goal.invariant-loop-pair
+invariant-loop-pair l = l.frames.items ≡ bulk_list (pair_texts (take l.pair-index l.pair-items))
