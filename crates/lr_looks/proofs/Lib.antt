@@ -1,0 +1,2 @@
+pub mod BulkLaws
+pub mod CountLaws

@@ -1,0 +1,4 @@
+pub mod Bulks
+pub mod Seen
+pub mod Looks
+pub mod Ping
