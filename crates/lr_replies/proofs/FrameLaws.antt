@@ -113,7 +113,8 @@ refusal_readable : (refusal : Refusal)
 refusal_readable TooDeep = ((omega arith, refl), refl, omega arith)
 refusal_readable _ = ((omega arith, refl), refl, omega arith)
 
-is_readable : (shape : Shape) → IsShape shape → Spells (spelling (frame_with shape)) (frame_with shape)
+is_readable : (shape : Shape) → IsShape shape
+    → Spells (spelling (frame_with shape)) (frame_with shape)
 is_readable Null fits = (tt, refl, omega arith)
 is_readable (Number n) fits =
     let short = number_length n fits in (number_readable n fits, refl, omega (arith, short))
