@@ -1,5 +1,5 @@
 -- A number with a minus isn't spelled as one with none.
-use Rattle.std.proofs.Common.{◌≡◌, ◌≢◌, ℕ, zero, suc, ◌<◌, ◌^◌, List, [], ◌∷◌, ◌++◌, get_or, drop, decimal, arith, refl, sym, ap, ℤ, pos, negsuc}
+use Rattle.std.proofs.Common.{◌≡◌, ◌≢◌, ℕ, zero, suc, ◌<◌, ◌^◌, List, ◌∷◌, ◌++◌, get_or, drop, decimal, arith, refl, sym, ap, ℤ, pos, negsuc}
 use Rattle.std.proofs.lemmas.Fmt.{decimal_digit, first_decimal}
 use Rattle.std.proofs.lemmas.List.{append_cancel_right}
 use Rattle.lr_resp.specs.declared.frame.Frame.TheVariants.{Number}
