@@ -1,9 +1,6 @@
 -- The frames of the replies are told apart, and can be read.
-use Rattle.std.proofs.Common.{◌≡◌, ◌≢◌, ℕ, ◌+◌, ◌<◌, ◌≤◌, ◌^◌, ◌++◌, List, [], ◌∷◌, length, decimal, Option, Some, None, IfSome, ℤ, pos, arith, refl, sym, ap, ◌∙◌}
-use Rattle.std.specs.Fmt.{signed_decimal}
-use Rattle.std.specs.Int.{w64}
+use Rattle.std.proofs.Common.{◌≡◌, ◌≢◌, ℕ, ◌<◌, ◌≤◌, ◌^◌, ◌++◌, List, [], length, decimal, Option, Some, None, IfSome, pos, arith, refl, sym, ap, ◌∙◌}
 use Rattle.std.specs.List.{concat}
-use Rattle.std.specs.Int.RustNames.{FitsSigned}
 use Rattle.std.specs.Option.{option_map}
 use Rattle.std.proofs.lemmas.List.{length-append}
 use Rattle.lr_text.proofs.NumberLaws.{length-decimal}
@@ -12,7 +9,6 @@ use Rattle.lr_objects.specs.declared.reply.Reply.{Reply}
 use Rattle.lr_resp.specs.declared.frame.Frame.{Frame}
 use Rattle.lr_resp.specs.declared.frame.Frame.TheVariants as frames
 use Rattle.lr_resp.specs.Grammar.{IsReadable, Spells}
-use Rattle.lr_resp.specs.Laws.{ReadIsOne}
 use Rattle.lr_resp.specs.Spelling.{spelling, line_end}
 use Rattle.lr_resp.proofs.One.{read_is_one}
 use Rattle.lr_replies.specs.Frames.{IsFrameOf, IsReply}
@@ -113,7 +109,8 @@ refusal_readable : (refusal : Refusal)
 refusal_readable TooDeep = ((omega arith, refl), refl, omega arith)
 refusal_readable _ = ((omega arith, refl), refl, omega arith)
 
-is_readable : (shape : Shape) → IsShape shape → Spells (spelling (frame_with shape)) (frame_with shape)
+is_readable : (shape : Shape) → IsShape shape
+    → Spells (spelling (frame_with shape)) (frame_with shape)
 is_readable Null fits = (tt, refl, omega arith)
 is_readable (Number n) fits =
     let short = number_length n fits in (number_readable n fits, refl, omega (arith, short))

@@ -1,9 +1,6 @@
 ghost use Rattle.std.specs.Prelude.{◌≡◌, Ok, IfOk, IfSome, IsNone, OnErr};
 ghost use Rattle.lr_objects.specs.declared.reply.Reply.{Reply};
 ghost use Rattle.lr_replies.specs.Frames.{HasFrame, IsFrameOf, IsReply};
-ghost use Rattle.lr_replies.specs.Roles.{role_of};
-ghost use Rattle.lr_replies.specs.Shapes.{shape_of};
-ghost use Rattle.lr_replies.specs.Reading.{reply_of};
 
 use crate::role::Role;
 use crate::shape::Shape;
@@ -18,7 +15,7 @@ pub enum ReplyFault {
     NotAReply,
 }
 
-/// The frame of a reply that the function may answer.
+/// The frame of a reply that the function may answer. The only error is want of memory.
 pub fn reply_frame(alloc: Global, function: Function, reply: &Reply) -> Result<Frame, AllocError>
     requires { HasFrame function reply.now }
     ensures { IfOk result (λ frame. IsFrameOf frame function reply.now) }

@@ -23,7 +23,7 @@ pub fn of_items(items: &Frames) -> Option<Integer>
     ensures none { IsNone result → (token : ℕ) → token < 2 ^ 63 → items.now ≢ token_items token }
 {
     match items.as_slice() {
-        [mark, number] => { if is_null(mark) { natural(number) } else { None } }
+        [mark, number] if is_null(mark) => natural(number),
         _ => None,
     }
 }

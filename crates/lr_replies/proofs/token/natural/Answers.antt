@@ -5,5 +5,5 @@ use Rattle.lr_replies.proofs.token.natural.Goals as goal
 
 pub returns-in-Number-clause-none : goal.returns-in-Number-clause-none
 returns-in-Number-clause-none c none n small is =
-    no_natural c.in-Number.number (c.natural.ensures.none none) n
+    no_natural c.in-Number.number (c.natural.ensures.none none) n small
     (sym (ap spelling c.in-Number.is) ∙ is)
