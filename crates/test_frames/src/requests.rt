@@ -112,6 +112,14 @@ fn other_frames_are_no_requests(rt: HostRuntime) -> Result<(), Fail> {
     Ok(())
 }
 
+// Whether there is this word at a place.
+fn has_word(words: &Words<'_>, place: usize, wanted: &[u8]) -> bool {
+    match words.get(place) {
+        Some(word) => word == wanted && words.word(place) == wanted,
+        None => false,
+    }
+}
+
 // Words behind others, with an empty one among them.
 fn words_are_seen(alloc: Global) -> Result<bool, AllocError> {
     let frame = frame_of(alloc, b"one  three")?;
@@ -119,9 +127,9 @@ fn words_are_seen(alloc: Global) -> Result<bool, AllocError> {
         return Ok(false);
     };
     let rest = words.behind(1);
-    let first = words.len() == 3 && words.word(0) == b"one" && words.get(1) == Some(b"");
-    let last = rest.len() == 2 && rest.get(1) == Some(b"three") && rest.get(2).is_none();
-    Ok(first && last && words.behind(4).is_empty() && words.word(3).is_empty())
+    let all = words.len() == 3 && has_word(&words, 0, b"one") && has_word(&words, 1, b"");
+    let last = rest.len() == 2 && has_word(&rest, 1, b"three") && rest.get(2).is_none();
+    Ok(all && last && words.behind(4).is_empty() && words.word(3).is_empty())
 }
 
 #[test]
