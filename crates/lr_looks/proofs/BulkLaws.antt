@@ -1,9 +1,8 @@
 -- Laws of lists of bulk strings.
-use Rattle.std.proofs.Common.{◌≡◌, ℕ, ◌+◌, ◌<◌, List, [], ◌∷◌, ◌++◌, length, take, map, get_or, ℤ, refl, ap, ◌∙◌}
+use Rattle.std.proofs.Common.{◌≡◌, ℕ, ◌+◌, ◌<◌, List, [], ◌∷◌, ◌++◌, length, take, get_or, ℤ, refl, ap, ◌∙◌}
 use Rattle.std.proofs.lemmas.List.{map-append, take_more}
 use Rattle.std.specs.Fmt.{signed_decimal}
 use Rattle.lr_keys.specs.FieldMap.{Pairs}
-use Rattle.lr_resp.specs.declared.frame.Frame.{Frame}
 use Rattle.lr_resp.specs.declared.frame.Frame.TheVariants.{Bulk}
 use Rattle.lr_looks.specs.Bulks.{bulk_list}
 use Rattle.lr_looks.specs.Looks.{pair_texts}

@@ -1,5 +1,5 @@
 -- How many members a key has is a number of 63 bits.
-use Rattle.std.proofs.Common.{◌≡◌, ℕ, ◌<◌, ◌≤◌, ◌^◌, List, length, Option, Some, None, IfOk, refl, arith}
+use Rattle.std.proofs.Common.{ℕ, ◌<◌, ◌≤◌, ◌^◌, List, length, Option, Some, None, IfOk, refl, arith}
 use Rattle.std.specs.Option.{ForSome}
 use Rattle.lr_limits.specs.Limits.{member_limit}
 use Rattle.lr_keys.specs.KeySpace.{AreLive, Content, Fields, Items, KeyEntry, Keys, IsLive, Members, Number, entry_at, list_at, list_in, member_count, seen, zset_at, zset_in}

@@ -1,5 +1,5 @@
 -- What the looks at the keys answer.
-use Rattle.std.specs.Prelude.{ℕ, ℤ, List, [], ◌∷◌, length, map, max, Option, Some, None, is_some, Bool, Result, Ok, Err, codes}
+use Rattle.std.specs.Prelude.{ℕ, ℤ, List, [], ◌∷◌, length, map, max, Option, Some, None, is_some, Result, Ok, Err, codes}
 use Rattle.std.specs.Fmt.{signed_decimal}
 use Rattle.lr_commands.specs.declared.look.Look.{Look}
 use Rattle.lr_commands.specs.declared.look.Look.TheVariants.{Exists, «Type» as TypeOf, TimeLeft, Get, HashGet, HashExists, HashGetAll, ListLength, SortedCount, ListRange, SortedRange, SortedScore}

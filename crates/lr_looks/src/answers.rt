@@ -74,10 +74,7 @@ pub(crate) fn score_answer(
 }
 
 /// How many there are, which is no more than a key may have.
-pub(crate) fn count_answer(
-    alloc: Global,
-    count: Result<u64, KeyFault>,
-) -> Result<Frame, AllocError>
+pub(crate) fn count_answer(alloc: Global, count: Result<u64, KeyFault>) -> Result<Frame, AllocError>
     requires { IfOk count (λ n. n < 2 ^ 63) }
     ensures { IfOk result (λ frame. frame ≡ shown count_frame count) }
 {

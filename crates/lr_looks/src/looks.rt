@@ -22,12 +22,7 @@ use std::alloc::{AllocError, Global};
 /// `lr_limits`, is absent too. Where the key holds another kind of value than the look is for, the
 /// answer is the error `WRONGTYPE`. It takes memory for the frame, and as much again for one of
 /// several texts.
-pub fn look(
-    alloc: Global,
-    keys: &KeySpace,
-    moment: u64,
-    look: &Look,
-) -> Result<Frame, AllocError>
+pub fn look(alloc: Global, keys: &KeySpace, moment: u64, look: &Look) -> Result<Frame, AllocError>
     ensures { IfOk result (λ frame. frame ≡ look_frame keys.now moment look.now) }
 {
     let moment = keys.moment().max(moment);

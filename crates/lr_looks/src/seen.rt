@@ -38,11 +38,7 @@ pub(crate) fn find(keys: &KeySpace, moment: u64, key: &Text) -> Option<Brief>
 
 /// The number of a field of a hash, if the field is there. `WrongKind` where the key holds another
 /// kind of value, however long the field is.
-pub(crate) fn number_of(
-    keys: &KeySpace,
-    key: &Brief,
-    field: &Text,
-) -> Result<Option<i64>, KeyFault>
+pub(crate) fn number_of(keys: &KeySpace, key: &Brief, field: &Text) -> Result<Option<i64>, KeyFault>
     ensures { result ≡ number_of field.now (hash_at (entry_at keys.now key.now)) }
 {
     if let Some(field) = Brief::of(field.as_slice()) {
@@ -56,11 +52,7 @@ pub(crate) fn number_of(
 
 /// The score of a member of a sorted set, if the member is there. `WrongKind` where the key holds
 /// another kind of value, however long the member is.
-pub(crate) fn score_in(
-    keys: &KeySpace,
-    key: &Brief,
-    member: &Text,
-) -> Result<Option<u64>, KeyFault>
+pub(crate) fn score_in(keys: &KeySpace, key: &Brief, member: &Text) -> Result<Option<u64>, KeyFault>
     ensures { result ≡ score_in member.now (zset_at (entry_at keys.now key.now)) }
 {
     if let Some(member) = Brief::of(member.as_slice()) {

@@ -35,11 +35,7 @@ pub(crate) fn push_bulk(
 }
 
 // Appends a field and its number in decimal, each as a bulk string.
-fn push_pair(
-    alloc: Global,
-    frames: &mut Vec<Frame>,
-    pair: &(Brief, i64),
-) -> Result<(), AllocError>
+fn push_pair(alloc: Global, frames: &mut Vec<Frame>, pair: &(Brief, i64)) -> Result<(), AllocError>
     ensures { OnOk result (frames.new.items
         ≡ frames.old.items ++ Bulk pair.now.0 ∷ Bulk (signed_decimal pair.now.1) ∷ []) }
 {
@@ -79,10 +75,7 @@ pub(crate) fn signed(alloc: Global, number: Option<i64>) -> Result<Frame, AllocE
         return Ok(Frame::Null);
     };
     let mut digits = Buffer::new();
-    Ok(Frame::Bulk(Text::of(
-        alloc,
-        digits.format(number).as_bytes(),
-    )?))
+    Ok(Frame::Bulk(Text::of(alloc, digits.format(number).as_bytes())?))
 }
 
 /// A number in decimal as a bulk string, and null for none.
@@ -93,10 +86,7 @@ pub(crate) fn decimal(alloc: Global, number: Option<u64>) -> Result<Frame, Alloc
         return Ok(Frame::Null);
     };
     let mut digits = Buffer::new();
-    Ok(Frame::Bulk(Text::of(
-        alloc,
-        digits.format(number).as_bytes(),
-    )?))
+    Ok(Frame::Bulk(Text::of(alloc, digits.format(number).as_bytes())?))
 }
 
 /// 1 for yes and 0 for no.

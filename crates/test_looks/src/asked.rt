@@ -112,7 +112,12 @@ fn put_list(alloc: Global, keys: &mut KeySpace, key: &[u8]) -> Result<(), KeyFau
 }
 
 fn put_zset(alloc: Global, keys: &mut KeySpace, key: &[u8]) -> Result<(), KeyFault> {
-    keys.zadd(alloc, &brief(key), &brief(b"late"), 18_446_744_073_709_551_615)?;
+    keys.zadd(
+        alloc,
+        &brief(key),
+        &brief(b"late"),
+        18_446_744_073_709_551_615,
+    )?;
     keys.zadd(alloc, &brief(key), &brief(b"soon"), 7)?;
     keys.zadd(alloc, &brief(key), &brief(b"next"), 7)?;
     Ok(())

@@ -3,8 +3,7 @@ use lr_keys::KeySpace;
 use std::alloc::{AllocError, Global};
 use std::test::Fail;
 
-const WRONG_KIND: &[u8] =
-    b"-WRONGTYPE Operation against a key holding the wrong kind of value\r\n";
+const WRONG_KIND: &[u8] = b"-WRONGTYPE Operation against a key holding the wrong kind of value\r\n";
 
 // Looks of a key alone, with the key and the answer.
 const KEY_LOOKS: [(KeyLook, &[u8], &[u8]); 35] = [

@@ -16,16 +16,20 @@ fn is_ponged(
 fn plain_pings(alloc: Global) -> Result<bool, AllocError> {
     let text = Some(Text::of(alloc, b"a\r\nb")?);
     let empty = Some(Text::new(alloc));
-    Ok(is_ponged(alloc, false, &None, b"+PONG\r\n")?
-        && is_ponged(alloc, false, &text, b"$4\r\na\r\nb\r\n")?
-        && is_ponged(alloc, false, &empty, b"$0\r\n\r\n")?)
+    Ok(
+        is_ponged(alloc, false, &None, b"+PONG\r\n")?
+            && is_ponged(alloc, false, &text, b"$4\r\na\r\nb\r\n")?
+            && is_ponged(alloc, false, &empty, b"$0\r\n\r\n")?,
+    )
 }
 
 fn pings_with_a_channel(alloc: Global) -> Result<bool, AllocError> {
     let text = Some(Text::of(alloc, b"hi")?);
     let none: &[u8] = b"*2\r\n$4\r\npong\r\n$0\r\n\r\n";
-    Ok(is_ponged(alloc, true, &None, none)?
-        && is_ponged(alloc, true, &text, b"*2\r\n$4\r\npong\r\n$2\r\nhi\r\n")?)
+    Ok(
+        is_ponged(alloc, true, &None, none)?
+            && is_ponged(alloc, true, &text, b"*2\r\n$4\r\npong\r\n$2\r\nhi\r\n")?,
+    )
 }
 
 fn texts_are_bulks(alloc: Global) -> Result<bool, AllocError> {

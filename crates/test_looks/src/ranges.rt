@@ -3,10 +3,10 @@ use lr_keys::KeySpace;
 use std::alloc::{AllocError, Global};
 use std::test::Fail;
 
-const WRONG_KIND: &[u8] =
-    b"-WRONGTYPE Operation against a key holding the wrong kind of value\r\n";
+const WRONG_KIND: &[u8] = b"-WRONGTYPE Operation against a key holding the wrong kind of value\r\n";
 
 const LIST: &[u8] = b"*4\r\n$1\r\na\r\n$1\r\nb\r\n$1\r\na\r\n$1\r\nc\r\n";
+
 const ZSET: &[u8] = b"*3\r\n$4\r\nnext\r\n$4\r\nsoon\r\n$4\r\nlate\r\n";
 
 // Ranges, with the key, the places and the answer.
@@ -15,8 +15,20 @@ const RANGES: [(RangeLook, &[u8], i64, i64, &[u8]); 27] = [
     (RangeLook::List, b"list", i64::MIN, i64::MAX, LIST),
     (RangeLook::List, b"list", -100, 100, LIST),
     (RangeLook::List, b"list", 0, 0, b"*1\r\n$1\r\na\r\n"),
-    (RangeLook::List, b"list", 1, 2, b"*2\r\n$1\r\nb\r\n$1\r\na\r\n"),
-    (RangeLook::List, b"list", -3, -2, b"*2\r\n$1\r\nb\r\n$1\r\na\r\n"),
+    (
+        RangeLook::List,
+        b"list",
+        1,
+        2,
+        b"*2\r\n$1\r\nb\r\n$1\r\na\r\n",
+    ),
+    (
+        RangeLook::List,
+        b"list",
+        -3,
+        -2,
+        b"*2\r\n$1\r\nb\r\n$1\r\na\r\n",
+    ),
     (RangeLook::List, b"list", -1, -1, b"*1\r\n$1\r\nc\r\n"),
     (RangeLook::List, b"list", 3, 9, b"*1\r\n$1\r\nc\r\n"),
     (RangeLook::List, b"list", 4, 9, b"*0\r\n"),
@@ -29,8 +41,20 @@ const RANGES: [(RangeLook, &[u8], i64, i64, &[u8]); 27] = [
     (RangeLook::Sorted, b"zset", 0, -1, ZSET),
     (RangeLook::Sorted, b"zset", i64::MIN, i64::MAX, ZSET),
     (RangeLook::Sorted, b"zset", 0, 0, b"*1\r\n$4\r\nnext\r\n"),
-    (RangeLook::Sorted, b"zset", 1, 2, b"*2\r\n$4\r\nsoon\r\n$4\r\nlate\r\n"),
-    (RangeLook::Sorted, b"zset", -2, -1, b"*2\r\n$4\r\nsoon\r\n$4\r\nlate\r\n"),
+    (
+        RangeLook::Sorted,
+        b"zset",
+        1,
+        2,
+        b"*2\r\n$4\r\nsoon\r\n$4\r\nlate\r\n",
+    ),
+    (
+        RangeLook::Sorted,
+        b"zset",
+        -2,
+        -1,
+        b"*2\r\n$4\r\nsoon\r\n$4\r\nlate\r\n",
+    ),
     (RangeLook::Sorted, b"zset", -3, 0, b"*1\r\n$4\r\nnext\r\n"),
     (RangeLook::Sorted, b"zset", 3, 3, b"*0\r\n"),
     (RangeLook::Sorted, b"zset", 2, 0, b"*0\r\n"),

@@ -3,11 +3,11 @@ use lr_keys::{KeyFault, KeySpace};
 use std::alloc::{AllocError, Global};
 use std::test::Fail;
 
-const WRONG_KIND: &[u8] =
-    b"-WRONGTYPE Operation against a key holding the wrong kind of value\r\n";
+const WRONG_KIND: &[u8] = b"-WRONGTYPE Operation against a key holding the wrong kind of value\r\n";
 
 // The longest text that may be a key, a field or a member, and one with a byte more.
 const LONGEST: [u8; 128] = [b'k'; 128];
+
 const TOO_LONG: [u8; 129] = [b'k'; 129];
 
 fn put(alloc: Global, keys: &mut KeySpace) -> Result<(), KeyFault> {
@@ -33,9 +33,11 @@ fn keys_have_a_size(alloc: Global, keys: &KeySpace) -> Result<bool, AllocError> 
     let longest = key_look(alloc, KeyLook::Get, &LONGEST)?;
     let too_long = key_look(alloc, KeyLook::Get, &TOO_LONG)?;
     let absent = key_look(alloc, KeyLook::TimeLeft, &TOO_LONG)?;
-    Ok(is_answered(alloc, keys, 0, &longest, b"$1\r\n1\r\n")?
-        && is_answered(alloc, keys, 0, &too_long, b"$-1\r\n")?
-        && is_answered(alloc, keys, 0, &absent, b":-2\r\n")?)
+    Ok(
+        is_answered(alloc, keys, 0, &longest, b"$1\r\n1\r\n")?
+            && is_answered(alloc, keys, 0, &too_long, b"$-1\r\n")?
+            && is_answered(alloc, keys, 0, &absent, b":-2\r\n")?,
+    )
 }
 
 fn is_sized(
@@ -48,8 +50,10 @@ fn is_sized(
 ) -> Result<bool, AllocError> {
     let longest = member_look(alloc, asked, key, &LONGEST)?;
     let too_long = member_look(alloc, asked, key, &TOO_LONG)?;
-    Ok(is_answered(alloc, keys, 0, &longest, there)?
-        && is_answered(alloc, keys, 0, &too_long, absent)?)
+    Ok(
+        is_answered(alloc, keys, 0, &longest, there)?
+            && is_answered(alloc, keys, 0, &too_long, absent)?,
+    )
 }
 
 fn members_have_a_size(alloc: Global, keys: &KeySpace) -> Result<bool, AllocError> {
@@ -57,15 +61,24 @@ fn members_have_a_size(alloc: Global, keys: &KeySpace) -> Result<bool, AllocErro
     let null: &[u8] = b"$-1\r\n";
     Ok(
         is_sized(alloc, keys, MemberLook::HashGet, b"hash", number, null)?
-            && is_sized(alloc, keys, MemberLook::HashExists, b"hash", b":1\r\n", b":0\r\n")?
+            && is_sized(
+                alloc,
+                keys,
+                MemberLook::HashExists,
+                b"hash",
+                b":1\r\n",
+                b":0\r\n",
+            )?
             && is_sized(alloc, keys, MemberLook::SortedScore, b"zset", score, null)?,
     )
 }
 
 fn kinds_come_first(alloc: Global, keys: &KeySpace) -> Result<bool, AllocError> {
     let (hash, score) = (MemberLook::HashGet, MemberLook::SortedScore);
-    Ok(is_sized(alloc, keys, hash, b"zset", WRONG_KIND, WRONG_KIND)?
-        && is_sized(alloc, keys, score, b"hash", WRONG_KIND, WRONG_KIND)?)
+    Ok(
+        is_sized(alloc, keys, hash, b"zset", WRONG_KIND, WRONG_KIND)?
+            && is_sized(alloc, keys, score, b"hash", WRONG_KIND, WRONG_KIND)?,
+    )
 }
 
 #[test]

@@ -1,4 +1,4 @@
-use Rattle.std.proofs.Common.{◌≡◌, ◌<◌, ◌^◌, IfOk, subst, sym}
+use Rattle.std.proofs.Common.{◌<◌, ◌^◌, IfOk, subst, sym}
 use Rattle.lr_looks.proofs.CountLaws.{llen-small, zcard-small}
 use Rattle.lr_looks.proofs.looks.answer.Goals as goal
 

@@ -1,4 +1,3 @@
-use Rattle.std.proofs.Common.{◌≡◌, arith}
 use Rattle.lr_looks.proofs.BulkLaws.{pair_bulks-more}
 use Rattle.lr_looks.proofs.values.fields.Goals as goal
 
