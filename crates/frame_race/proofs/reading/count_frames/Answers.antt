@@ -37,11 +37,12 @@ begins : (c : goal.In_ok-count)
     → BeginsWith (c.loop-rest.count + c.in_ok-count.field-0) c.args.stream.now
     (c.take_frames.new.decoder.unread ++ c.split_at.result.1.now)
 begins c =
-    let parts = sym (take-append-drop c.min.result c.loop-rest.rest.now)
-    ∙ ap (λ (l : List ℕ). l ++ drop c.min.result c.loop-rest.rest.now) (sym c.split_at.ensures.front)
+    let rest = c.loop-rest.rest.now in
+    let parts = sym (take-append-drop c.min.result rest)
+    ∙ ap (λ (l : List ℕ). l ++ drop c.min.result rest) (sym c.split_at.ensures.front)
     ∙ ap (λ (l : List ℕ). c.split_at.result.0.now ++ l) (sym c.split_at.ensures.back) in
     fed_more c.loop-rest.count c.in_ok-count.field-0 c.args.stream.now
-    c.loop-rest.decoder.unread c.loop-rest.rest.now c.split_at.result.0.now
+    c.loop-rest.decoder.unread rest c.split_at.result.0.now
     c.split_at.result.1.now c.feed.new.self.unread c.take_frames.new.decoder.unread
     c.loop-rest.invariant.begins parts c.in_ok-feed.ensures.unread c.in_ok-count.ensures.frames
 
