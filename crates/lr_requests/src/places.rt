@@ -1,4 +1,4 @@
-ghost use Rattle.std.specs.Prelude.{◌≡◌, ◌≢◌, ◌<◌, ◌^◌, ℕ, suc, ◌∷◌, decimal, IsNone, IfSome};
+ghost use Rattle.std.specs.Prelude.{◌≡◌, ◌≢◌, ◌<◌, ◌^◌, ℕ, suc, List, ◌∷◌, decimal, IsNone, IfSome};
 ghost use Rattle.std.specs.Fmt.{signed_decimal};
 ghost use Rattle.lr_requests.specs.Places.{IsPlace, IsPlaceText};
 
@@ -14,9 +14,19 @@ pub fn read_place(text: &[u8]) -> Option<i64>
     ensures place { IfSome result IsPlace }
     ensures none { IsNone result → ¬ (IsPlaceText text.now) }
 {
+    match after_minus(text) {
+        Some(digits) => read_negative(digits),
+        None => read_positive(text),
+    }
+}
+
+fn after_minus(text: &[u8]) -> Option<&[u8]>
+    ensures some { IfSome result (λ digits. text.now ≡ 45 ∷ digits.now) }
+    ensures none { IsNone result → (digits : List ℕ) → text.now ≢ 45 ∷ digits }
+{
     match text {
-        [b'-', digits @ ..] => read_negative(digits),
-        _ => read_positive(text),
+        [b'-', digits @ ..] => Some(digits),
+        _ => None,
     }
 }
 
