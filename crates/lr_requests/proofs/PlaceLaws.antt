@@ -1,6 +1,7 @@
 -- Places have one spelling.
 use Rattle.std.proofs.Common.{◌≡◌, ◌≢◌, ℕ, ◌<◌, ◌^◌, ℤ, pos, negsuc, List, ◌∷◌, suc, drop, decimal, sym, ap, ◌∙◌, refl, true≢false, arith}
 use Rattle.std.specs.Fmt.{signed_decimal}
+use Rattle.std.proofs.lemmas.Fmt.{decimal_injective}
 use Rattle.std.specs.Int.{IsInRange}
 use Rattle.lr_text.specs.Words.{lacks}
 use Rattle.lr_text.proofs.NumberLaws.{decimal-lacks}
@@ -34,3 +35,16 @@ no_positive text no_minus none (negsuc n) small same = no_minus (decimal (suc n)
 pub no_place_without_minus : (text : List ℕ) → ((digits : List ℕ) → text ≢ 45 ∷ digits)
     → ((n : ℕ) → n < 2 ^ 63 → text ≢ decimal n) → ¬ (IsPlaceText text)
 no_place_without_minus text no_minus none h = no_positive text no_minus none h.0 h.1 h.2
+
+-- two places with one spelling are one
+pub one_place : (a b : ℤ) → IsPlace a → IsPlace b → signed_decimal a ≡ signed_decimal b → a ≡ b
+one_place (pos m) (pos n) in_a in_b same =
+    ap pos (decimal_injective m n (omega arith) (omega arith) same)
+one_place (pos m) (negsuc n) in_a in_b same =
+    absurd (decimal_no_minus m (decimal (suc n)) (omega arith) (sym same))
+one_place (negsuc m) (pos n) in_a in_b same =
+    absurd (decimal_no_minus n (decimal (suc m)) (omega arith) same)
+one_place (negsuc m) (negsuc n) in_a in_b same =
+    let more = decimal_injective (suc m) (suc n) (omega arith) (omega arith) (ap (drop 1) same) in
+    let less : m ≡ n = omega (arith, more) in
+    ap negsuc less

@@ -1,16 +1,21 @@
-ghost use Rattle.lr_requests.specs.Laws.{RequestIsOne, FaultIsNoRequest, FaultIsOne};
+ghost use Rattle.lr_requests.specs.Laws.{WordsAreOne, RequestIsOne, FaultIsNoRequest, FaultIsOne};
 
-/// A frame asks for at most one request.
+/// The frame of words that are within the limits for reading is that of no other such words.
+pub fn a_frame_has_its_words()
+    ensures { WordsAreOne }
+{}
+
+/// Words ask for at most one request.
 pub fn one_request_is_asked()
     ensures { RequestIsOne }
 {}
 
-/// A frame with a fault asks for nothing.
+/// Words with a fault ask for nothing.
 pub fn a_fault_is_no_request()
     ensures { FaultIsNoRequest }
 {}
 
-/// A frame has at most one fault, but for want of memory.
+/// Words have at most one fault, but for want of memory.
 pub fn a_fault_is_alone()
     ensures { FaultIsOne }
 {}

@@ -17,7 +17,9 @@ mod write_command;
 pub use arity::Arity;
 pub use command::Command;
 pub use fault::CommandFault;
-pub use laws::{a_fault_is_alone, a_fault_is_no_request, one_request_is_asked};
+pub use laws::{
+    a_fault_is_alone, a_fault_is_no_request, a_frame_has_its_words, one_request_is_asked,
+};
 pub use look_command::{ItemCommand, KeyCommand, LookCommand, RangeCommand};
 pub use parser::parse;
 pub use write_command::WriteCommand;

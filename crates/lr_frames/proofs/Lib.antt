@@ -1,0 +1,5 @@
+pub mod BulkLaws
+pub mod GivenLaws
+pub mod OpLaws
+pub mod FaultLaws
+pub mod Outcomes
