@@ -36,9 +36,6 @@ drop-are_bulks (suc count) (item ∷ items) h =
 
 -- A frame that is spelled as a word of at most so many bytes is a bulk string.
 
-after_mark : (b : ℕ) (xs ys : List ℕ) → b ∷ xs ≡ b ∷ ys → get_or xs 0 0 ≡ get_or ys 0 0
-after_mark b xs ys same = ap (λ (l : List ℕ). get_or l 1 0) same
-
 first_of : (xs ys : List ℕ) → 0 < length xs → get_or (xs ++ ys) 0 0 ≡ get_or xs 0 0
 first_of [] ys some = absurd (omega (arith, some))
 first_of (x ∷ xs) ys some = refl
@@ -63,9 +60,9 @@ bulk_alone (Array frames) text short same = absurd (omega (arith, mark_of 42 36 
 bulk_alone Null text short same =
     let small : length text < 2 ^ 64 = omega (arith, short) in
     let dash : 45 ≡ get_or (decimal (length text) ++ (line_end ++ (text ++ line_end))) 0 0 =
-        ap (λ (l : List ℕ). get_or l 1 0) same in
+    ap (λ (l : List ℕ). get_or l 1 0) same in
     absurd (not_dash (length text) small
-        (sym (first_of (decimal (length text)) (line_end ++ (text ++ line_end)) (decimal_nonempty (length text) small)) ∙ sym dash))
+    (sym (first_of (decimal (length text)) (line_end ++ (text ++ line_end)) (decimal_nonempty (length text) small)) ∙ sym dash))
 
 pub heads : (x y : List ℕ) (xs ys : List (List ℕ)) → x ∷ xs ≡ y ∷ ys → (x ≡ y) × (xs ≡ ys)
 heads x y xs ys same = (ap (λ (l : List (List ℕ)). get_or l 0 []) same, ap (λ (l : List (List ℕ)). drop 1 l) same)
@@ -117,5 +114,5 @@ brief_spells words brief =
     let count = length-map words bulk_word in
     let digits = length-decimal (length (map bulk_word words)) (omega (arith, count, brief.0)) in
     let size : length (spelling (words_frame words)) ≤ frame_limit =
-        omega (arith, count, digits.1, brief.0, total-words words brief.1, length-append (decimal (length (map bulk_word words))) (line_end ++ concat (map bulk_word words))) in
+    omega (arith, count, digits.1, brief.0, total-words words brief.1, length-append (decimal (length (map bulk_word words))) (line_end ++ concat (map bulk_word words))) in
     (words_readable words (brief.0, short_words words brief.1), refl, size)

@@ -53,8 +53,8 @@ pub no_op_fault : (fault : OpFault) (word : List ℕ) (words : List (List ℕ)) 
     → (op : Op) → IsSaid op → ¬ (IsOpOf op word words)
 no_op_fault fault word words bad op is of =
     own_op_fault fault op is
-        (subst (λ (l : List (List ℕ)). IsOpFault fault (function_word (op_function op)) l) of.1
-            (subst (λ (w : List ℕ). IsOpFault fault w words) of.0 bad))
+    (subst (λ (l : List (List ℕ)). IsOpFault fault (function_word (op_function op)) l) of.1
+    (subst (λ (w : List ℕ). IsOpFault fault w words) of.0 bad))
 
 own_keyed_fault : (fault : OpFault) (op : Op) → IsSaid op
     → ¬ (IsKeyedFault fault (function_word (op_function op)) key_count (op_words op))

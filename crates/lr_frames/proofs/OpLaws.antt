@@ -72,14 +72,14 @@ one_call op other in_op in_other function words =
     let named = heads op.name other.name _ _ words in
     let shape : shape_of (op_function other) ≡ shape_of f = ap shape_of (sym function) in
     let sound : IsSound (shape_of f) (op_given other) =
-        subst (λ s. IsSound s (op_given other)) shape (op_sound other in_other) in
+    subst (λ s. IsSound s (op_given other)) shape (op_sound other in_other) in
     let same : given_words (shape_of f) (op_given op) ≡ given_words (shape_of f) (op_given other) =
-        named.1 ∙ ap (λ s. given_words s (op_given other)) shape in
+    named.1 ∙ ap (λ s. given_words s (op_given other)) shape in
     let parts = same_parts (shape_of f) (op_given op) (op_given other) (op_sound op in_op) sound same in
     let mine : op_given op ≡ parts_of (shape_of f) (op_given op) = call_parts op.call in
     let its : op_given other ≡ parts_of (shape_of (op_function other)) (op_given other) = call_parts other.call in
     let given : op_given op ≡ op_given other =
-        mine ∙ parts ∙ ap (λ s. parts_of s (op_given other)) (sym shape) ∙ sym its in
+    mine ∙ parts ∙ ap (λ s. parts_of s (op_given other)) (sym shape) ∙ sym its in
     remade op.name op.call
     ∙ ap (λ (g : Function). made_op g op.name (op_given op)) function
     ∙ ap (λ (n : List ℕ). made_op (op_function other) n (op_given op)) named.0

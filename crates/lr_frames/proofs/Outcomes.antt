@@ -46,7 +46,7 @@ pub call_bad : (outcome : Result Op OpFault) (function : Function) (words own : 
 call_bad (Ok op) function words own some is one behind bad = tt
 call_bad (Err fault) function words own some is one behind bad =
     call_fault fault function words some is one
-        (subst (λ (l : List (List ℕ)). IsWordsFault fault (shape_of function) l) behind bad)
+    (subst (λ (l : List (List ℕ)). IsWordsFault fault (shape_of function) l) behind bad)
 
 pub frame_spells : {E : Type 0} (outcome : Result Frame E) (op : Op) → IsSaid op
     → IfOk outcome (λ frame. frame ≡ words_frame (call_words op))

@@ -20,14 +20,14 @@ made_renewal name given =
 abbrev pub made_wanted : Function → List ℕ → Given → Op
 made_wanted function name given =
     op_of
-        (record {
-          function = function;
-          name = name;
-          lease = For given.lease;
-          number = given.number;
-          id = given.id;
-        })
-        given.owner given.lease given.queue
+    (record {
+      function = function;
+      name = name;
+      lease = For given.lease;
+      number = given.number;
+      id = given.id;
+    })
+    given.owner given.lease given.queue
 
 abbrev pub made_op : Function → List ℕ → Given → Op
 made_op (functions.ReadWrite read_writes.Renew) name given = made_renewal name given

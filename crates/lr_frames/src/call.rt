@@ -1,4 +1,4 @@
-ghost use Rattle.std.specs.Prelude.{◌≡◌, ◌≢◌, ◌∷◌, IfOk, IfErr, IsErr, IfSome, IsTrue, ◌↔◌};
+ghost use Rattle.std.specs.Prelude.{◌≡◌, ◌≢◌, ◌∷◌, ◌<◌, length, IfOk, IfErr, IsErr, IfSome, IsTrue, ◌↔◌};
 ghost use Rattle.lr_objects.specs.declared.op.Op.{Op};
 ghost use Rattle.lr_objects.specs.Function.{function_word};
 ghost use Rattle.lr_objects.specs.Op.{IsCall};
@@ -67,7 +67,7 @@ fn read_keyed(words: &Words<'_>) -> Result<Op, OpFault>
     ensures said { IfOk result IsSaid }
     ensures fault { IfErr result (λ fault. IsCallFault fault words.now) }
 {
-    if words.len() < 2 {
+    if !has_keys(words) {
         return Err(OpFault::WrongArguments);
     }
     let function = function_of(words.word(0))?;
@@ -75,6 +75,13 @@ fn read_keyed(words: &Words<'_>) -> Result<Op, OpFault>
         return Err(OpFault::WrongArguments);
     }
     read_words(function, &words.behind(2))
+}
+
+// Whether there are a function and a count of keys.
+fn has_keys(words: &Words<'_>) -> bool
+    ensures { IsTrue result ↔ (1 < length words.now) }
+{
+    1 < words.len()
 }
 
 fn is_one_key(word: &[u8]) -> bool

@@ -117,14 +117,13 @@ look_fits (OfKey command) arguments look (key, is, same) =
     (ap (λ (l : List (List ℕ)). length l) is, tt)
 look_fits (OfItem command) arguments look (key, item, is, same) =
     (ap (λ (l : List (List ℕ)). length l) is, tt)
-look_fits (OfRange command) arguments look (key, start, stop, start_in, stop_in, is, same) =
-    (
-      ap (λ (l : List (List ℕ)). length l) is,
-      (
-        (start, start_in, ap (λ l. word_at l 1) is),
-        (stop, stop_in, ap (λ l. word_at l 2) is)
-      )
-    )
+look_fits (OfRange command) arguments look (key, start, stop, start_in, stop_in, is, same) = (
+  ap (λ (l : List (List ℕ)). length l) is,
+  (
+    (start, start_in, ap (λ l. word_at l 1) is),
+    (stop, stop_in, ap (λ l. word_at l 2) is),
+  ),
+)
 
 -- they are as many as the command has, their channels are channels, and their places numbers
 pub record IsFaultless (command : Command) (arguments : List (List ℕ)) : Type 0 where

@@ -49,4 +49,4 @@ pub small_word-apart : (write : WriteCommand) (command : Command)
     → small_write_word write ≢ small_word command
 small_word-apart write command same =
     with_word-none small_word ALL IsWordTable-small_word (small_write_word write)
-        (ap is_some (no_command_of write)) command same
+    (ap is_some (no_command_of write)) command same

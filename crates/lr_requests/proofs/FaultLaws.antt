@@ -56,7 +56,7 @@ no_fcall fault arguments request memory bad asked =
 PlainFaultOf : CommandFault → Command → List (List ℕ) → Type 0
 PlainFaultOf fault command arguments = ((fault ≡ WrongArguments) × ¬ (Fits command arguments))
     ⊎ (((fault ≡ BadChannel) × Fits command arguments × ¬ (NamesChannels command arguments))
-        ⊎ ((fault ≡ BadNumber) × Fits command arguments × ¬ (HasPlaces command arguments)))
+    ⊎ ((fault ≡ BadNumber) × Fits command arguments × ¬ (HasPlaces command arguments)))
 
 plain_fault : (fault : CommandFault) (command : Command) (arguments : List (List ℕ))
     → fault ≢ NoMemory → IsPlainFault fault command arguments → PlainFaultOf fault command arguments
@@ -106,7 +106,7 @@ one_plain_fault : (fault other : CommandFault) (command : Command) (arguments : 
     → IsPlainFault other command arguments → fault ≡ other
 one_plain_fault fault other command arguments memory also a b =
     same_plain fault other command arguments
-        (plain_fault fault command arguments memory a) (plain_fault other command arguments also b)
+    (plain_fault fault command arguments memory a) (plain_fault other command arguments also b)
 
 no_case : (fault : CommandFault) (command : Command) (arguments : List (List ℕ))
     → IsFaultless command arguments → ¬ (PlainFaultOf fault command arguments)
@@ -120,7 +120,7 @@ no_plain : (fault : CommandFault) (command : Command) (arguments : List (List �
     → ¬ (Asks command arguments request)
 no_plain fault command arguments request other memory bad asked =
     no_case fault command arguments (faultless command arguments request other asked)
-        (plain_fault fault command arguments memory bad)
+    (plain_fault fault command arguments memory bad)
 
 -- A fault of the arguments of a command.
 
@@ -198,7 +198,7 @@ unfolding Refused
 one_refused fault other word arguments memory also (command, is, a) (command', is', b) =
     let same = small_word-injective command' command (sym is' ∙ is) in
     one_arguments_fault fault other command arguments memory also a
-        (subst (λ c. IsArgumentsFault other c arguments) same b)
+    (subst (λ c. IsArgumentsFault other c arguments) same b)
 
 same_words_fault : (fault other : CommandFault) (word : List ℕ) (arguments : List (List ℕ))
     → fault ≢ NoMemory → other ≢ NoMemory → WordsFaultOf fault word arguments
@@ -224,7 +224,7 @@ same_words_fault fault other word arguments memory also (inr (inr a)) (inr (inr 
 pub fault_is_one : FaultIsOne
 fault_is_one word arguments fault other memory also a b =
     same_words_fault fault other word arguments memory also
-        (words_fault fault word arguments a) (words_fault other word arguments b)
+    (words_fault fault word arguments a) (words_fault other word arguments b)
 
 no_words_fault : (fault : CommandFault) (word : List ℕ) (arguments : List (List ℕ)) (request : Request)
     → fault ≢ NoMemory → WordsFaultOf fault word arguments → ¬ (WordsAsk word arguments request)
@@ -235,7 +235,7 @@ no_words_fault fault word arguments request memory (inr (inl a)) asked = a.1.1 a
 no_words_fault fault word arguments request memory (inr (inr (command, is, bad))) asked =
     let same = small_word-injective asked.0 command (sym asked.1 ∙ is) in
     no_arguments_fault fault command arguments request memory bad
-        (subst (λ c. Asks c arguments request) same asked.2)
+    (subst (λ c. Asks c arguments request) same asked.2)
 
 pub fault_is_no_request : FaultIsNoRequest
 fault_is_no_request word arguments fault request memory bad =

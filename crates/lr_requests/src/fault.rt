@@ -4,8 +4,7 @@ ghost use Rattle.lr_requests.specs.declared.fault.CommandFault.TheVariants.{NoMe
 
 use lr_frames::OpFault;
 use std::alloc::AllocError;
-use std::fmt;
-use std::str;
+use std::{fmt, str};
 
 /// Why a frame asks for nothing. The faults are tested in this order, and the first that fits is
 /// told; want of memory may come in the place of any but the first.

@@ -14,8 +14,7 @@ returns-clause-look c =
     let last = sym c.word-2.ensures ∙ stop.ensures.text in
     let key = c.in_ok-key.ensures.text ∙ c.word-3.ensures in
     let begins : to_z w64 (of_z w64 start.start) ≡ start.start = search rules in
-    let ends : to_z w64 (of_z w64 stop.stop) ≡ stop.stop = search rules in
-    (
+    let ends : to_z w64 (of_z w64 stop.stop) ≡ stop.stop = search rules in (
       word_at words 0,
       start.start,
       stop.stop,
@@ -27,5 +26,5 @@ returns-clause-look c =
       c.look.ensures
           ∙ ap (λ (z : ℤ). range_look c.args.command c.in_ok-key.key z (to_z w64 (of_z w64 stop.stop))) begins
           ∙ ap (λ (z : ℤ). range_look c.args.command c.in_ok-key.key start.start z) ends
-          ∙ ap (λ (k : List ℕ). range_look c.args.command k start.start stop.stop) key
+          ∙ ap (λ (k : List ℕ). range_look c.args.command k start.start stop.stop) key,
     )

@@ -8,5 +8,6 @@ returns-then-number-eq0-clause-none c = λ _ n small is.
     let number = c.in_ok-number.number in
     let same = decimal_injective (suc n) number (omega arith) (omega arith) (sym is ∙ c.in_ok-number.ensures.some) in
     elim c.then-number-eq0.branch [
-      then-number-eq0-via-then-number-eq0 w ↦ omega arith
-      | then-number-eq0-via-else-number-eq0+then-number-gt-LEAST w ↦ omega arith ]
+      | then-number-eq0-via-then-number-eq0 w ↦ omega arith
+      | then-number-eq0-via-else-number-eq0+then-number-gt-LEAST w ↦ omega arith
+    ]

@@ -7,4 +7,4 @@ use Rattle.lr_frames.proofs.sentence.Sentence.into_frame.Goals as goal
 pub returns : goal.returns
 returns c =
     ap (λ (l : List (List ℕ)). Array l)
-        (c.of.ensures ∙ spelled_words c.self.inside.items.items c.self.invariant ∙ ap (map bulk_word) c.self.view_is)
+    (c.of.ensures ∙ spelled_words c.self.inside.items.items c.self.invariant ∙ ap (map bulk_word) c.self.view_is)

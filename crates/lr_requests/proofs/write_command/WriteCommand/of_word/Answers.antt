@@ -11,4 +11,4 @@ returns-clause-some c =
 pub returns-clause-none : goal.returns-clause-none
 returns-clause-none c =
     rw c.search.ensures
-        (with_word-none small_write_word ALL IsWordTable-small_write_word (lower c.args.word.now))
+    (with_word-none small_write_word ALL IsWordTable-small_write_word (lower c.args.word.now))
