@@ -1,0 +1,9 @@
+pub mod Case
+pub mod Command
+pub mod Places
+pub mod Look
+pub mod Channels
+pub mod Request
+pub mod Refusal
+pub mod Frame
+pub mod Laws
