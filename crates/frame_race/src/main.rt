@@ -8,7 +8,9 @@
 //! the stream has.
 #![tactic(auto)]
 
-ghost use Rattle.std.specs.Prelude.{◌<◌};
+ghost use Rattle.std.specs.Prelude.{◌≡◌, ◌<◌, ◌-◌, ◌^◌, ◌==◌, if◌then◌else◌, true, false, IfOk, replicate};
+ghost use Rattle.std.specs.List.{concat};
+ghost use Rattle.frame_race.specs.Repeated.{IsRepeated};
 
 mod frames;
 mod reading;
@@ -38,7 +40,8 @@ fn is_large(word: Option<String>) -> bool {
 
 // How many bytes a piece has, where 0 means all.
 fn piece_size(bytes: u32) -> usize
-    ensures { 0 < result }
+    ensures size { result ≡ (if bytes == 0 then 2 ^ 64 - 1 else bytes) }
+    ensures some { 0 < result }
 {
     if 0 < bytes {
         bytes as usize
@@ -48,7 +51,11 @@ fn piece_size(bytes: u32) -> usize
 }
 
 // The stream of so many frames of a kind.
-fn stream_of(alloc: Global, is_large: bool, frames: u32) -> Result<BytesMut, AllocError> {
+fn stream_of(alloc: Global, is_large: bool, frames: u32) -> Result<BytesMut, AllocError>
+    ensures call { is_large ≡ false
+        → IfOk result (λ bytes. bytes.items ≡ concat (replicate frames CALL.now)) }
+    ensures large { is_large ≡ true → IfOk result (λ bytes. IsRepeated frames 983000 bytes.items) }
+{
     if is_large {
         copies(alloc, large_frame(alloc)?.as_slice(), frames)
     } else {
