@@ -1,38 +1,51 @@
 use crate::asked::{KeyLook, MemberLook, brief, is_answered, key_look, member_look};
 use lr_keys::{KeyFault, KeySpace};
+use lr_text::{Brief, Text};
 use std::alloc::{AllocError, Global};
 use std::test::Fail;
 
 const WRONG_KIND: &[u8] = b"-WRONGTYPE Operation against a key holding the wrong kind of value\r\n";
 
-// The longest text that may be a key, a field or a member, and one with a byte more.
-const LONGEST: [u8; 128] = [b'k'; 128];
+// So many letters: 128 may be a key, a field or a member, and 129 may not.
+fn letters(alloc: Global, count: usize) -> Result<Text, AllocError> {
+    let mut text = Text::new(alloc);
+    for _ in 0..count {
+        text.push(b'k')?;
+    }
+    Ok(text)
+}
 
-const TOO_LONG: [u8; 129] = [b'k'; 129];
+fn put(alloc: Global, keys: &mut KeySpace, longest: &Brief) -> Result<(), KeyFault> {
+    keys.incrby(longest, 1)?;
+    keys.hincrby(alloc, &brief(b"hash"), longest, 2)?;
+    keys.zadd(alloc, &brief(b"zset"), longest, 3)?;
+    Ok(())
+}
 
-fn put(alloc: Global, keys: &mut KeySpace) -> Result<(), KeyFault> {
-    keys.incrby(&brief(&LONGEST), 1)?;
-    keys.hincrby(alloc, &brief(b"hash"), &brief(&LONGEST), 2)?;
-    keys.zadd(alloc, &brief(b"zset"), &brief(&LONGEST), 3)?;
-    // What a text that is cut or left out would find.
-    keys.incrby(&brief(b""), 4)?;
-    keys.hincrby(alloc, &brief(b"hash"), &brief(b""), 5)?;
-    keys.zadd(alloc, &brief(b"zset"), &brief(b""), 6)?;
+// What a text that is left out would find.
+fn put_empty(alloc: Global, keys: &mut KeySpace) -> Result<(), KeyFault> {
+    keys.incrby(&Brief::new(), 4)?;
+    keys.hincrby(alloc, &brief(b"hash"), &Brief::new(), 5)?;
+    keys.zadd(alloc, &brief(b"zset"), &Brief::new(), 6)?;
     Ok(())
 }
 
 fn long_keys(alloc: Global) -> Result<KeySpace, AllocError> {
     let mut keys = KeySpace::new(alloc)?;
-    match put(alloc, &mut keys) {
+    let longest = letters(alloc, 128)?;
+    if put(alloc, &mut keys, &brief(longest.as_slice())).is_err() {
+        return Err(AllocError);
+    }
+    match put_empty(alloc, &mut keys) {
         Ok(()) => Ok(keys),
         Err(_) => Err(AllocError),
     }
 }
 
 fn keys_have_a_size(alloc: Global, keys: &KeySpace) -> Result<bool, AllocError> {
-    let longest = key_look(alloc, KeyLook::Get, &LONGEST)?;
-    let too_long = key_look(alloc, KeyLook::Get, &TOO_LONG)?;
-    let absent = key_look(alloc, KeyLook::TimeLeft, &TOO_LONG)?;
+    let longest = key_look(alloc, KeyLook::Get, letters(alloc, 128)?.as_slice())?;
+    let too_long = key_look(alloc, KeyLook::Get, letters(alloc, 129)?.as_slice())?;
+    let absent = key_look(alloc, KeyLook::TimeLeft, letters(alloc, 129)?.as_slice())?;
     Ok(
         is_answered(alloc, keys, 0, &longest, b"$1\r\n1\r\n")?
             && is_answered(alloc, keys, 0, &too_long, b"$-1\r\n")?
@@ -48,8 +61,8 @@ fn is_sized(
     there: &[u8],
     absent: &[u8],
 ) -> Result<bool, AllocError> {
-    let longest = member_look(alloc, asked, key, &LONGEST)?;
-    let too_long = member_look(alloc, asked, key, &TOO_LONG)?;
+    let longest = member_look(alloc, asked, key, letters(alloc, 128)?.as_slice())?;
+    let too_long = member_look(alloc, asked, key, letters(alloc, 129)?.as_slice())?;
     Ok(
         is_answered(alloc, keys, 0, &longest, there)?
             && is_answered(alloc, keys, 0, &too_long, absent)?,
