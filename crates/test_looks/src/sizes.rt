@@ -42,55 +42,63 @@ fn long_keys(alloc: Global) -> Result<KeySpace, AllocError> {
     }
 }
 
-fn keys_have_a_size(alloc: Global, keys: &KeySpace) -> Result<bool, AllocError> {
-    let longest = key_look(alloc, KeyLook::Get, letters(alloc, 128)?.as_slice())?;
-    let too_long = key_look(alloc, KeyLook::Get, letters(alloc, 129)?.as_slice())?;
-    let absent = key_look(alloc, KeyLook::TimeLeft, letters(alloc, 129)?.as_slice())?;
-    Ok(
-        is_answered(alloc, keys, 0, &longest, b"$1\r\n1\r\n")?
-            && is_answered(alloc, keys, 0, &too_long, b"$-1\r\n")?
-            && is_answered(alloc, keys, 0, &absent, b":-2\r\n")?,
-    )
+// Whether a look at the key of so many letters is answered so.
+fn answers(
+    alloc: Global,
+    keys: &KeySpace,
+    asked: KeyLook,
+    count: usize,
+    written: &[u8],
+) -> Result<bool, AllocError> {
+    let key = letters(alloc, count)?;
+    let look = key_look(alloc, asked, key.as_slice())?;
+    is_answered(alloc, keys, 0, &look, written)
 }
 
-fn is_sized(
+// Whether a look at the member of so many letters is answered so.
+fn answers_member(
     alloc: Global,
     keys: &KeySpace,
     asked: MemberLook,
     key: &[u8],
-    there: &[u8],
-    absent: &[u8],
+    count: usize,
+    written: &[u8],
 ) -> Result<bool, AllocError> {
-    let longest = member_look(alloc, asked, key, letters(alloc, 128)?.as_slice())?;
-    let too_long = member_look(alloc, asked, key, letters(alloc, 129)?.as_slice())?;
+    let member = letters(alloc, count)?;
+    let look = member_look(alloc, asked, key, member.as_slice())?;
+    is_answered(alloc, keys, 0, &look, written)
+}
+
+fn keys_have_a_size(alloc: Global, keys: &KeySpace) -> Result<bool, AllocError> {
     Ok(
-        is_answered(alloc, keys, 0, &longest, there)?
-            && is_answered(alloc, keys, 0, &too_long, absent)?,
+        answers(alloc, keys, KeyLook::Get, 128, b"$1\r\n1\r\n")?
+            && answers(alloc, keys, KeyLook::Get, 129, b"$-1\r\n")?
+            && answers(alloc, keys, KeyLook::TimeLeft, 129, b":-2\r\n")?,
+    )
+}
+
+fn fields_have_a_size(alloc: Global, keys: &KeySpace) -> Result<bool, AllocError> {
+    let (get, exists) = (MemberLook::HashGet, MemberLook::HashExists);
+    Ok(
+        answers_member(alloc, keys, get, b"hash", 128, b"$1\r\n2\r\n")?
+            && answers_member(alloc, keys, get, b"hash", 129, b"$-1\r\n")?
+            && answers_member(alloc, keys, exists, b"hash", 129, b":0\r\n")?,
     )
 }
 
 fn members_have_a_size(alloc: Global, keys: &KeySpace) -> Result<bool, AllocError> {
-    let (number, score): (&[u8], &[u8]) = (b"$1\r\n2\r\n", b"$1\r\n3\r\n");
-    let null: &[u8] = b"$-1\r\n";
+    let score = MemberLook::SortedScore;
     Ok(
-        is_sized(alloc, keys, MemberLook::HashGet, b"hash", number, null)?
-            && is_sized(
-                alloc,
-                keys,
-                MemberLook::HashExists,
-                b"hash",
-                b":1\r\n",
-                b":0\r\n",
-            )?
-            && is_sized(alloc, keys, MemberLook::SortedScore, b"zset", score, null)?,
+        answers_member(alloc, keys, score, b"zset", 128, b"$1\r\n3\r\n")?
+            && answers_member(alloc, keys, score, b"zset", 129, b"$-1\r\n")?,
     )
 }
 
 fn kinds_come_first(alloc: Global, keys: &KeySpace) -> Result<bool, AllocError> {
-    let (hash, score) = (MemberLook::HashGet, MemberLook::SortedScore);
+    let (get, score) = (MemberLook::HashGet, MemberLook::SortedScore);
     Ok(
-        is_sized(alloc, keys, hash, b"zset", WRONG_KIND, WRONG_KIND)?
-            && is_sized(alloc, keys, score, b"hash", WRONG_KIND, WRONG_KIND)?,
+        answers_member(alloc, keys, get, b"zset", 129, WRONG_KIND)?
+            && answers_member(alloc, keys, score, b"hash", 129, WRONG_KIND)?,
     )
 }
 
@@ -104,7 +112,7 @@ fn keys_of_128_bytes(rt: HostRuntime) -> Result<(), Fail> {
 #[test]
 fn members_of_128_bytes(rt: HostRuntime) -> Result<(), Fail> {
     let keys = long_keys(rt.alloc())?;
-    assert!(rt; members_have_a_size(rt.alloc(), &keys)?);
+    assert!(rt; fields_have_a_size(rt.alloc(), &keys)? && members_have_a_size(rt.alloc(), &keys)?);
     Ok(())
 }
 
