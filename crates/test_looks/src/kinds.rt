@@ -1,110 +1,181 @@
-use crate::asked::{KeyLook, MemberLook, all_kinds, is_answered, key_look, member_look};
+use crate::asked::{
+    KeyLook, MemberLook, RangeLook, all_kinds, is_answered, key_look, member_look, range_look,
+};
+use lr_commands::Look;
 use lr_keys::KeySpace;
 use std::alloc::{AllocError, Global};
 use std::test::Fail;
 
-const WRONG_KIND: &[u8] = b"-WRONGTYPE Operation against a key holding the wrong kind of value\r\n";
+// A key of each kind, and one that is absent.
+const KEYS: [&[u8]; 5] = [b"counter", b"hash", b"list", b"zset", b"none"];
 
-// Looks of a key alone, with the key and the answer.
-const KEY_LOOKS: [(KeyLook, &[u8], &[u8]); 35] = [
-    (KeyLook::Exists, b"counter", b":1\r\n"),
-    (KeyLook::Exists, b"hash", b":1\r\n"),
-    (KeyLook::Exists, b"list", b":1\r\n"),
-    (KeyLook::Exists, b"zset", b":1\r\n"),
-    (KeyLook::Exists, b"none", b":0\r\n"),
-    (KeyLook::Type, b"counter", b"+string\r\n"),
-    (KeyLook::Type, b"hash", b"+hash\r\n"),
-    (KeyLook::Type, b"list", b"+list\r\n"),
-    (KeyLook::Type, b"zset", b"+zset\r\n"),
-    (KeyLook::Type, b"none", b"+none\r\n"),
-    (KeyLook::TimeLeft, b"counter", b":-1\r\n"),
-    (KeyLook::TimeLeft, b"hash", b":1000\r\n"),
-    (KeyLook::TimeLeft, b"list", b":-1\r\n"),
-    (KeyLook::TimeLeft, b"zset", b":-1\r\n"),
-    (KeyLook::TimeLeft, b"none", b":-2\r\n"),
-    (KeyLook::Get, b"counter", b"$3\r\n-42\r\n"),
-    (KeyLook::Get, b"hash", WRONG_KIND),
-    (KeyLook::Get, b"list", WRONG_KIND),
-    (KeyLook::Get, b"zset", WRONG_KIND),
-    (KeyLook::Get, b"none", b"$-1\r\n"),
-    (KeyLook::HashGetAll, b"counter", WRONG_KIND),
-    (
-        KeyLook::HashGetAll,
-        b"hash",
-        b"*4\r\n$3\r\ntwo\r\n$1\r\n2\r\n$3\r\none\r\n$2\r\n-1\r\n",
-    ),
-    (KeyLook::HashGetAll, b"list", WRONG_KIND),
-    (KeyLook::HashGetAll, b"zset", WRONG_KIND),
-    (KeyLook::HashGetAll, b"none", b"*0\r\n"),
-    (KeyLook::ListLength, b"counter", WRONG_KIND),
-    (KeyLook::ListLength, b"hash", WRONG_KIND),
-    (KeyLook::ListLength, b"list", b":4\r\n"),
-    (KeyLook::ListLength, b"zset", WRONG_KIND),
-    (KeyLook::ListLength, b"none", b":0\r\n"),
-    (KeyLook::SortedCount, b"counter", WRONG_KIND),
-    (KeyLook::SortedCount, b"hash", WRONG_KIND),
-    (KeyLook::SortedCount, b"list", WRONG_KIND),
-    (KeyLook::SortedCount, b"zset", b":3\r\n"),
-    (KeyLook::SortedCount, b"none", b":0\r\n"),
-];
+const WRONG: &[u8] = b"-WRONGTYPE Operation against a key holding the wrong kind of value\r\n";
 
-// Looks of a key and a member, with both and the answer.
-const MEMBER_LOOKS: [(MemberLook, &[u8], &[u8], &[u8]); 18] = [
-    (MemberLook::HashGet, b"counter", b"one", WRONG_KIND),
-    (MemberLook::HashGet, b"hash", b"one", b"$2\r\n-1\r\n"),
-    (MemberLook::HashGet, b"hash", b"three", b"$-1\r\n"),
-    (MemberLook::HashGet, b"list", b"one", WRONG_KIND),
-    (MemberLook::HashGet, b"zset", b"one", WRONG_KIND),
-    (MemberLook::HashGet, b"none", b"one", b"$-1\r\n"),
-    (MemberLook::HashExists, b"counter", b"one", WRONG_KIND),
-    (MemberLook::HashExists, b"hash", b"one", b":1\r\n"),
-    (MemberLook::HashExists, b"hash", b"three", b":0\r\n"),
-    (MemberLook::HashExists, b"list", b"one", WRONG_KIND),
-    (MemberLook::HashExists, b"zset", b"one", WRONG_KIND),
-    (MemberLook::HashExists, b"none", b"one", b":0\r\n"),
-    (MemberLook::SortedScore, b"counter", b"soon", WRONG_KIND),
-    (MemberLook::SortedScore, b"hash", b"soon", WRONG_KIND),
-    (MemberLook::SortedScore, b"list", b"soon", WRONG_KIND),
-    (
-        MemberLook::SortedScore,
-        b"zset",
-        b"late",
-        b"$20\r\n18446744073709551615\r\n",
-    ),
-    (MemberLook::SortedScore, b"zset", b"two", b"$-1\r\n"),
-    (MemberLook::SortedScore, b"none", b"soon", b"$-1\r\n"),
-];
+/// A look of any of the keys.
+#[derive(Clone, Copy)]
+enum Asked<'a> {
+    Key(KeyLook),
+    Member(MemberLook, &'a [u8]),
+    All(RangeLook),
+}
 
-fn key_looks_are_answered(alloc: Global, keys: &KeySpace) -> Result<bool, AllocError> {
-    for (asked, key, written) in KEY_LOOKS {
-        let asked = key_look(alloc, asked, key)?;
-        if !is_answered(alloc, keys, 0, &asked, written)? {
+fn look_of(alloc: Global, asked: Asked<'_>, key: &[u8]) -> Result<Look, AllocError> {
+    match asked {
+        Asked::Key(asked) => key_look(alloc, asked, key),
+        Asked::Member(asked, member) => member_look(alloc, asked, key, member),
+        Asked::All(asked) => range_look(alloc, asked, key, 0, -1),
+    }
+}
+
+// Whether the look is answered so for each of the keys, in order.
+fn answers(
+    alloc: Global,
+    keys: &KeySpace,
+    asked: Asked<'_>,
+    written: [&[u8]; 5],
+) -> Result<bool, AllocError> {
+    for place in 0..5usize {
+        let look = look_of(alloc, asked, KEYS[place])?;
+        if !is_answered(alloc, keys, 0, &look, written[place])? {
             return Ok(false);
         }
     }
     Ok(true)
 }
 
-fn member_looks_are_answered(alloc: Global, keys: &KeySpace) -> Result<bool, AllocError> {
-    for (asked, key, member, written) in MEMBER_LOOKS {
-        let asked = member_look(alloc, asked, key, member)?;
-        if !is_answered(alloc, keys, 0, &asked, written)? {
-            return Ok(false);
-        }
-    }
-    Ok(true)
+fn exists(alloc: Global, keys: &KeySpace) -> Result<bool, AllocError> {
+    let written: [&[u8]; 5] = [b":1\r\n", b":1\r\n", b":1\r\n", b":1\r\n", b":0\r\n"];
+    answers(alloc, keys, Asked::Key(KeyLook::Exists), written)
+}
+
+fn kind(alloc: Global, keys: &KeySpace) -> Result<bool, AllocError> {
+    let written: [&[u8]; 5] = [
+        b"+string\r\n",
+        b"+hash\r\n",
+        b"+list\r\n",
+        b"+zset\r\n",
+        b"+none\r\n",
+    ];
+    answers(alloc, keys, Asked::Key(KeyLook::Type), written)
+}
+
+fn time_left(alloc: Global, keys: &KeySpace) -> Result<bool, AllocError> {
+    let written: [&[u8]; 5] = [b":-1\r\n", b":1000\r\n", b":-1\r\n", b":-1\r\n", b":-2\r\n"];
+    answers(alloc, keys, Asked::Key(KeyLook::TimeLeft), written)
+}
+
+fn number(alloc: Global, keys: &KeySpace) -> Result<bool, AllocError> {
+    let written: [&[u8]; 5] = [b"$3\r\n-42\r\n", WRONG, WRONG, WRONG, b"$-1\r\n"];
+    answers(alloc, keys, Asked::Key(KeyLook::Get), written)
+}
+
+fn fields(alloc: Global, keys: &KeySpace) -> Result<bool, AllocError> {
+    let all = b"*4\r\n$3\r\ntwo\r\n$1\r\n2\r\n$3\r\none\r\n$2\r\n-1\r\n";
+    let written: [&[u8]; 5] = [WRONG, all, WRONG, WRONG, b"*0\r\n"];
+    answers(alloc, keys, Asked::Key(KeyLook::HashGetAll), written)
+}
+
+fn list_length(alloc: Global, keys: &KeySpace) -> Result<bool, AllocError> {
+    let written: [&[u8]; 5] = [WRONG, WRONG, b":4\r\n", WRONG, b":0\r\n"];
+    answers(alloc, keys, Asked::Key(KeyLook::ListLength), written)
+}
+
+fn sorted_count(alloc: Global, keys: &KeySpace) -> Result<bool, AllocError> {
+    let written: [&[u8]; 5] = [WRONG, WRONG, WRONG, b":3\r\n", b":0\r\n"];
+    answers(alloc, keys, Asked::Key(KeyLook::SortedCount), written)
+}
+
+fn field(alloc: Global, keys: &KeySpace) -> Result<bool, AllocError> {
+    let written: [&[u8]; 5] = [WRONG, b"$2\r\n-1\r\n", WRONG, WRONG, b"$-1\r\n"];
+    let asked = Asked::Member(MemberLook::HashGet, b"one");
+    answers(alloc, keys, asked, written)
+}
+
+fn absent_field(alloc: Global, keys: &KeySpace) -> Result<bool, AllocError> {
+    let written: [&[u8]; 5] = [WRONG, b"$-1\r\n", WRONG, WRONG, b"$-1\r\n"];
+    let asked = Asked::Member(MemberLook::HashGet, b"three");
+    answers(alloc, keys, asked, written)
+}
+
+fn has_field(alloc: Global, keys: &KeySpace) -> Result<bool, AllocError> {
+    let written: [&[u8]; 5] = [WRONG, b":1\r\n", WRONG, WRONG, b":0\r\n"];
+    let asked = Asked::Member(MemberLook::HashExists, b"one");
+    answers(alloc, keys, asked, written)
+}
+
+fn lacks_field(alloc: Global, keys: &KeySpace) -> Result<bool, AllocError> {
+    let written: [&[u8]; 5] = [WRONG, b":0\r\n", WRONG, WRONG, b":0\r\n"];
+    let asked = Asked::Member(MemberLook::HashExists, b"three");
+    answers(alloc, keys, asked, written)
+}
+
+fn score(alloc: Global, keys: &KeySpace) -> Result<bool, AllocError> {
+    let greatest = b"$20\r\n18446744073709551615\r\n";
+    let written: [&[u8]; 5] = [WRONG, WRONG, WRONG, greatest, b"$-1\r\n"];
+    let asked = Asked::Member(MemberLook::SortedScore, b"late");
+    answers(alloc, keys, asked, written)
+}
+
+fn absent_score(alloc: Global, keys: &KeySpace) -> Result<bool, AllocError> {
+    let written: [&[u8]; 5] = [WRONG, WRONG, WRONG, b"$-1\r\n", b"$-1\r\n"];
+    let asked = Asked::Member(MemberLook::SortedScore, b"two");
+    answers(alloc, keys, asked, written)
+}
+
+fn items(alloc: Global, keys: &KeySpace) -> Result<bool, AllocError> {
+    let all = b"*4\r\n$1\r\na\r\n$1\r\nb\r\n$1\r\na\r\n$1\r\nc\r\n";
+    let written: [&[u8]; 5] = [WRONG, WRONG, all, WRONG, b"*0\r\n"];
+    answers(alloc, keys, Asked::All(RangeLook::List), written)
+}
+
+fn members(alloc: Global, keys: &KeySpace) -> Result<bool, AllocError> {
+    let all = b"*3\r\n$4\r\nnext\r\n$4\r\nsoon\r\n$4\r\nlate\r\n";
+    let written: [&[u8]; 5] = [WRONG, WRONG, WRONG, all, b"*0\r\n"];
+    answers(alloc, keys, Asked::All(RangeLook::Sorted), written)
 }
 
 #[test]
-fn looks_of_a_key(rt: HostRuntime) -> Result<(), Fail> {
+fn looks_of_any_kind(rt: HostRuntime) -> Result<(), Fail> {
     let keys = all_kinds(rt.alloc())?;
-    assert!(rt; key_looks_are_answered(rt.alloc(), &keys)?);
+    let there = exists(rt.alloc(), &keys)? && kind(rt.alloc(), &keys)?;
+    assert!(rt; there && time_left(rt.alloc(), &keys)?);
     Ok(())
 }
 
 #[test]
-fn looks_of_a_member(rt: HostRuntime) -> Result<(), Fail> {
+fn looks_at_counters(rt: HostRuntime) -> Result<(), Fail> {
     let keys = all_kinds(rt.alloc())?;
-    assert!(rt; member_looks_are_answered(rt.alloc(), &keys)?);
+    assert!(rt; number(rt.alloc(), &keys)?);
+    Ok(())
+}
+
+fn hashes(alloc: Global, keys: &KeySpace) -> Result<bool, AllocError> {
+    let numbers = field(alloc, keys)? && absent_field(alloc, keys)? && fields(alloc, keys)?;
+    Ok(numbers && has_field(alloc, keys)? && lacks_field(alloc, keys)?)
+}
+
+#[test]
+fn looks_at_hashes(rt: HostRuntime) -> Result<(), Fail> {
+    let keys = all_kinds(rt.alloc())?;
+    assert!(rt; hashes(rt.alloc(), &keys)?);
+    Ok(())
+}
+
+#[test]
+fn looks_at_lists(rt: HostRuntime) -> Result<(), Fail> {
+    let keys = all_kinds(rt.alloc())?;
+    assert!(rt; list_length(rt.alloc(), &keys)? && items(rt.alloc(), &keys)?);
+    Ok(())
+}
+
+fn sorted_sets(alloc: Global, keys: &KeySpace) -> Result<bool, AllocError> {
+    let scores = score(alloc, keys)? && absent_score(alloc, keys)?;
+    Ok(scores && sorted_count(alloc, keys)? && members(alloc, keys)?)
+}
+
+#[test]
+fn looks_at_sorted_sets(rt: HostRuntime) -> Result<(), Fail> {
+    let keys = all_kinds(rt.alloc())?;
+    assert!(rt; sorted_sets(rt.alloc(), &keys)?);
     Ok(())
 }

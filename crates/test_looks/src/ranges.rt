@@ -3,80 +3,85 @@ use lr_keys::KeySpace;
 use std::alloc::{AllocError, Global};
 use std::test::Fail;
 
-const WRONG_KIND: &[u8] = b"-WRONGTYPE Operation against a key holding the wrong kind of value\r\n";
+// Whether these places of the list a, b, a, c are these items.
+fn is_part(
+    alloc: Global,
+    keys: &KeySpace,
+    start: i64,
+    stop: i64,
+    items: &[u8],
+) -> Result<bool, AllocError> {
+    let look = range_look(alloc, RangeLook::List, b"list", start, stop)?;
+    is_answered(alloc, keys, 500, &look, items)
+}
 
-const LIST: &[u8] = b"*4\r\n$1\r\na\r\n$1\r\nb\r\n$1\r\na\r\n$1\r\nc\r\n";
+// Whether these places of the sorted set next, soon, late are these members.
+fn is_sorted_part(
+    alloc: Global,
+    keys: &KeySpace,
+    start: i64,
+    stop: i64,
+    members: &[u8],
+) -> Result<bool, AllocError> {
+    let look = range_look(alloc, RangeLook::Sorted, b"zset", start, stop)?;
+    is_answered(alloc, keys, 500, &look, members)
+}
 
-const ZSET: &[u8] = b"*3\r\n$4\r\nnext\r\n$4\r\nsoon\r\n$4\r\nlate\r\n";
+fn all_items(alloc: Global, keys: &KeySpace) -> Result<bool, AllocError> {
+    let all = b"*4\r\n$1\r\na\r\n$1\r\nb\r\n$1\r\na\r\n$1\r\nc\r\n";
+    Ok(is_part(alloc, keys, i64::MIN, i64::MAX, all)? && is_part(alloc, keys, -4, 3, all)?)
+}
 
-// Ranges, with the key, the places and the answer.
-const RANGES: [(RangeLook, &[u8], i64, i64, &[u8]); 27] = [
-    (RangeLook::List, b"list", 0, -1, LIST),
-    (RangeLook::List, b"list", i64::MIN, i64::MAX, LIST),
-    (RangeLook::List, b"list", -100, 100, LIST),
-    (RangeLook::List, b"list", 0, 0, b"*1\r\n$1\r\na\r\n"),
-    (
-        RangeLook::List,
-        b"list",
-        1,
-        2,
-        b"*2\r\n$1\r\nb\r\n$1\r\na\r\n",
-    ),
-    (
-        RangeLook::List,
-        b"list",
-        -3,
-        -2,
-        b"*2\r\n$1\r\nb\r\n$1\r\na\r\n",
-    ),
-    (RangeLook::List, b"list", -1, -1, b"*1\r\n$1\r\nc\r\n"),
-    (RangeLook::List, b"list", 3, 9, b"*1\r\n$1\r\nc\r\n"),
-    (RangeLook::List, b"list", 4, 9, b"*0\r\n"),
-    (RangeLook::List, b"list", 2, 1, b"*0\r\n"),
-    (RangeLook::List, b"list", 0, -5, b"*0\r\n"),
-    (RangeLook::List, b"counter", 0, -1, WRONG_KIND),
-    (RangeLook::List, b"hash", 0, -1, WRONG_KIND),
-    (RangeLook::List, b"zset", 0, -1, WRONG_KIND),
-    (RangeLook::List, b"none", 0, -1, b"*0\r\n"),
-    (RangeLook::Sorted, b"zset", 0, -1, ZSET),
-    (RangeLook::Sorted, b"zset", i64::MIN, i64::MAX, ZSET),
-    (RangeLook::Sorted, b"zset", 0, 0, b"*1\r\n$4\r\nnext\r\n"),
-    (
-        RangeLook::Sorted,
-        b"zset",
-        1,
-        2,
-        b"*2\r\n$4\r\nsoon\r\n$4\r\nlate\r\n",
-    ),
-    (
-        RangeLook::Sorted,
-        b"zset",
-        -2,
-        -1,
-        b"*2\r\n$4\r\nsoon\r\n$4\r\nlate\r\n",
-    ),
-    (RangeLook::Sorted, b"zset", -3, 0, b"*1\r\n$4\r\nnext\r\n"),
-    (RangeLook::Sorted, b"zset", 3, 3, b"*0\r\n"),
-    (RangeLook::Sorted, b"zset", 2, 0, b"*0\r\n"),
-    (RangeLook::Sorted, b"counter", 0, -1, WRONG_KIND),
-    (RangeLook::Sorted, b"hash", 0, -1, WRONG_KIND),
-    (RangeLook::Sorted, b"list", 0, -1, WRONG_KIND),
-    (RangeLook::Sorted, b"none", 0, -1, b"*0\r\n"),
-];
+fn some_items(alloc: Global, keys: &KeySpace) -> Result<bool, AllocError> {
+    let middle = b"*2\r\n$1\r\nb\r\n$1\r\na\r\n";
+    Ok(is_part(alloc, keys, 1, 2, middle)? && is_part(alloc, keys, -3, -2, middle)?)
+}
 
-fn ranges_are_answered(alloc: Global, keys: &KeySpace) -> Result<bool, AllocError> {
-    for (asked, key, start, stop, written) in RANGES {
-        let asked = range_look(alloc, asked, key, start, stop)?;
-        if !is_answered(alloc, keys, 500, &asked, written)? {
-            return Ok(false);
-        }
-    }
-    Ok(true)
+fn one_item(alloc: Global, keys: &KeySpace) -> Result<bool, AllocError> {
+    let last = b"*1\r\n$1\r\nc\r\n";
+    Ok(
+        is_part(alloc, keys, -1, -1, last)?
+            && is_part(alloc, keys, 3, 9, last)?
+            && is_part(alloc, keys, -9, 0, b"*1\r\n$1\r\na\r\n")?,
+    )
+}
+
+fn no_items(alloc: Global, keys: &KeySpace) -> Result<bool, AllocError> {
+    Ok(
+        is_part(alloc, keys, 4, 9, b"*0\r\n")?
+            && is_part(alloc, keys, 2, 1, b"*0\r\n")?
+            && is_part(alloc, keys, 0, -5, b"*0\r\n")?,
+    )
+}
+
+fn some_members(alloc: Global, keys: &KeySpace) -> Result<bool, AllocError> {
+    let behind = b"*2\r\n$4\r\nsoon\r\n$4\r\nlate\r\n";
+    Ok(
+        is_sorted_part(alloc, keys, 1, i64::MAX, behind)?
+            && is_sorted_part(alloc, keys, -2, -1, behind)?
+            && is_sorted_part(alloc, keys, i64::MIN, 0, b"*1\r\n$4\r\nnext\r\n")?,
+    )
+}
+
+fn no_members(alloc: Global, keys: &KeySpace) -> Result<bool, AllocError> {
+    Ok(
+        is_sorted_part(alloc, keys, 3, 3, b"*0\r\n")?
+            && is_sorted_part(alloc, keys, 2, 0, b"*0\r\n")?
+            && is_sorted_part(alloc, keys, 0, -4, b"*0\r\n")?,
+    )
 }
 
 #[test]
-fn ranges(rt: HostRuntime) -> Result<(), Fail> {
+fn places_of_lists(rt: HostRuntime) -> Result<(), Fail> {
     let keys = all_kinds(rt.alloc())?;
-    assert!(rt; ranges_are_answered(rt.alloc(), &keys)?);
+    let some = all_items(rt.alloc(), &keys)? && some_items(rt.alloc(), &keys)?;
+    assert!(rt; some && one_item(rt.alloc(), &keys)? && no_items(rt.alloc(), &keys)?);
+    Ok(())
+}
+
+#[test]
+fn places_of_sorted_sets(rt: HostRuntime) -> Result<(), Fail> {
+    let keys = all_kinds(rt.alloc())?;
+    assert!(rt; some_members(rt.alloc(), &keys)? && no_members(rt.alloc(), &keys)?);
     Ok(())
 }
