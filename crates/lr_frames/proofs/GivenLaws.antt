@@ -1,5 +1,5 @@
 -- What functions are given, and its words.
-use Rattle.std.proofs.Common.{◌≡◌, ℕ, suc, ◌<◌, ◌≤◌, ◌^◌, Bool, true, false, List, [], ◌∷◌, length, get_or, drop, codes, decimal, refl, sym, ap, ◌∙◌, arith}
+use Rattle.std.proofs.Common.{◌≡◌, ℕ, ◌<◌, ◌≤◌, ◌^◌, Bool, true, false, List, [], ◌∷◌, length, get_or, decimal, refl, ap, ◌∙◌, arith}
 use Rattle.std.specs.List.{AllByRecursion}
 use Rattle.std.proofs.lemmas.Fmt.{decimal_injective}
 use Rattle.lr_names.specs.Owner.{ThreadOfClient, IsId, IsOwner, id_text, owner_text}
@@ -25,9 +25,8 @@ use Rattle.lr_frames.specs.Faults.{IsNamed, IsNumbered, Fits}
 use Rattle.lr_frames.specs.Given.{owned, given_nothing, given_owner, given_lease, given_number, given_id, given_words, queue_word, access_word}
 use Rattle.lr_frames.specs.Read.{IsGiven}
 use Rattle.lr_frames.specs.Said.{call_said}
-use Rattle.lr_frames.specs.Shape.{shape_of, shape_len}
+use Rattle.lr_frames.specs.Shape.{shape_of}
 use Rattle.lr_frames.specs.Words.{word_at}
-use Rattle.lr_frames.proofs.BulkLaws.{heads}
 
 -- the parts that a function with this shape is given are such
 abbrev pub IsSound : Shape → Given → Type 0

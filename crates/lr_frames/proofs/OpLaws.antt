@@ -1,7 +1,6 @@
 -- Calls, their words, and the calls that are made of them.
-use Rattle.std.proofs.Common.{◌≡◌, ℕ, ◌<◌, ◌≤◌, ◌^◌, List, [], ◌∷◌, length, codes, refl, sym, ap, subst, ◌∙◌, arith}
-use Rattle.std.specs.List.{AllByRecursion}
-use Rattle.lr_objects.specs.declared.access.Access.TheVariants.{Read, Write}
+use Rattle.std.proofs.Common.{◌≡◌, ℕ, ◌≤◌, List, ◌∷◌, length, refl, sym, ap, subst, ◌∙◌, arith}
+use Rattle.lr_objects.specs.declared.access.Access.TheVariants.{Read}
 use Rattle.lr_objects.specs.declared.kinds.Function.{Function}
 use Rattle.lr_objects.specs.declared.kinds.Function.TheVariants as functions
 use Rattle.lr_objects.specs.declared.lock.LockFunction.TheVariants as locks
@@ -24,10 +23,9 @@ use Rattle.lr_objects.specs.declared.op.Op.{Op}
 use Rattle.lr_objects.specs.Function.{function_word}
 use Rattle.lr_objects.proofs.FunctionLaws.{function_word-injective, length-function_word}
 use Rattle.lr_frames.specs.declared.given.Given.{Given}
-use Rattle.lr_frames.specs.declared.shape.Shape.{Shape}
 use Rattle.lr_frames.specs.Given.{given_words}
 use Rattle.lr_frames.specs.Made.{made_op}
-use Rattle.lr_frames.specs.OpWords.{op_function, op_given, op_words, fcall_words, call_words, key_count, IsSaid, IsOpOf}
+use Rattle.lr_frames.specs.OpWords.{op_function, op_given, op_words, fcall_words, call_words, IsSaid, IsOpOf}
 use Rattle.lr_frames.specs.Said.{call_said}
 use Rattle.lr_frames.specs.Shape.{shape_of}
 use Rattle.lr_frames.proofs.BulkLaws.{AreBrief, heads}

@@ -1,5 +1,5 @@
--- Which words are no call, and why: this project's own. The faults are tested in this order, and each
--- is what it is only where none before it is.
+-- Which words are no call, and why: this project's own. The faults are tested in this order, and
+-- each is what it is only where none before it is.
 use Rattle.std.specs.Prelude.{◌≡◌, ◌≢◌, ◌⊎◌, ℕ, suc, ◌<◌, ◌^◌, Bool, List, [], ◌∷◌, length, decimal}
 use Rattle.lr_names.specs.Name.{IsName}
 use Rattle.lr_names.specs.Owner.{ThreadOfClient, IsId, IsOwner, id_text, owner_text}

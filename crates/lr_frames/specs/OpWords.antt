@@ -1,5 +1,5 @@
--- The words of a call. `FCALL function numkeys key arg ..` is that of the Redis command page, and the
--- name of the object is its one key.
+-- The words of a call. `FCALL function numkeys key arg ..` is that of the Redis command page, and
+-- the name of the object is its one key.
 use Rattle.std.specs.Prelude.{◌≡◌, ℕ, ◌<◌, ◌^◌, List, ◌∷◌, codes}
 use Rattle.lr_objects.specs.declared.kinds.Function.{Function}
 use Rattle.lr_objects.specs.declared.op.Op.{Op}

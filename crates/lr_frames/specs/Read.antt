@@ -1,5 +1,5 @@
 -- What the words behind the name of an object are, read one by one.
-use Rattle.std.specs.Prelude.{◌≡◌, ◌<◌, ◌^◌, ℕ, List, decimal}
+use Rattle.std.specs.Prelude.{◌≡◌, ℕ, List, decimal}
 use Rattle.lr_names.specs.Owner.{id_text, owner_text}
 use Rattle.lr_frames.specs.declared.fault.OpFault.{OpFault}
 use Rattle.lr_frames.specs.declared.fault.OpFault.TheVariants.{NotFunction, WrongArguments, BadName, BadNumber}

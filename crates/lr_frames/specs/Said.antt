@@ -1,5 +1,5 @@
 -- The function of each call, and what it is given: a line for each. This project's own.
-use Rattle.std.specs.Prelude.{true, false}
+use Rattle.std.specs.Prelude.{false}
 use Rattle.lr_objects.specs.declared.access.Access.{Access}
 use Rattle.lr_objects.specs.declared.access.Access.TheVariants as accesses
 use Rattle.lr_objects.specs.declared.kinds.Function.TheVariants as functions

@@ -5,8 +5,6 @@ use Rattle.lr_objects.specs.declared.form.Arguments.TheVariants as arguments
 use Rattle.lr_objects.specs.declared.kinds.Function.{Function}
 use Rattle.lr_objects.specs.declared.kinds.Function.TheVariants as functions
 use Rattle.lr_objects.specs.declared.fair.FairFunction.TheVariants as fair
-use Rattle.lr_objects.specs.declared.fenced.FencedFunction.TheVariants as fenced
-use Rattle.lr_objects.specs.declared.lock.LockFunction.{LockFunction}
 use Rattle.lr_objects.specs.declared.fair.FairFunction.{FairFunction}
 use Rattle.lr_objects.specs.declared.read_write.ReadWriteFunction.{ReadWriteFunction}
 use Rattle.lr_objects.specs.declared.read_write.ReadWriteFunction.TheVariants as read_write

@@ -1,5 +1,5 @@
--- Requests as lists of words: the Redis protocol page has a client send a command as an array of bulk
--- strings.
+-- Requests as lists of words: the Redis protocol page has a client send a command as an array of
+-- bulk strings.
 use Rattle.std.specs.Prelude.{ℕ, ◌≤◌, Bool, true, false, List, [], length, get_or, map}
 use Rattle.std.specs.List.{AllByRecursion}
 use Rattle.lr_resp.specs.declared.frame.Frame.{Frame}

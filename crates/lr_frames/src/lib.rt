@@ -1,4 +1,4 @@
-//! Calls of functions as the words of an FCALL request: how they are written, and how they are read.
+//! Calls of functions as the words of an FCALL request: how they are written and read.
 #![tactic(auto)]
 
 mod call;

@@ -71,7 +71,8 @@ pub fn read_given(shape: Shape, words: &Words<'_>) -> Result<Given, OpFault>
 /// The name of an object, or `BadName`.
 pub fn name_of(word: &[u8]) -> Result<Name, OpFault>
     ensures name { IfOk result (λ name. (name ≡ word.now) × IsName word.now) }
-    ensures fault { IfErr result (λ fault. (fault ≡ OpFault.BadName) × ¬ (IsName word.now)) }
+    ensures fault { IfErr result (λ fault. (fault ≡ OpFault.BadName)
+        × ¬ (IsName word.now)) }
 {
     match Name::parse(word) {
         Ok(name) => Ok(name),
@@ -81,7 +82,8 @@ pub fn name_of(word: &[u8]) -> Result<Name, OpFault>
 
 fn owner_of(word: &[u8]) -> Result<Owner, OpFault>
     ensures owner { IfOk result (λ owner. (word.now ≡ owner_text owner) × IsOwner owner) }
-    ensures fault { IfErr result (λ fault. (fault ≡ OpFault.BadName) × ¬ (IsOwnerText word.now)) }
+    ensures fault { IfErr result (λ fault. (fault ≡ OpFault.BadName)
+        × ¬ (IsOwnerText word.now)) }
 {
     match Owner::parse(word) {
         Ok(owner) => Ok(owner),
@@ -91,21 +93,24 @@ fn owner_of(word: &[u8]) -> Result<Owner, OpFault>
 
 fn id_of(word: &[u8]) -> Result<Uuid, OpFault>
     ensures id { IfOk result (λ id. (word.now ≡ id_text id) × IsId id) }
-    ensures fault { IfErr result (λ fault. (fault ≡ OpFault.BadName) × ¬ (IsIdText word.now)) }
+    ensures fault { IfErr result (λ fault. (fault ≡ OpFault.BadName)
+        × ¬ (IsIdText word.now)) }
 {
     read_id(word).ok_or(OpFault::BadName)
 }
 
 fn number_of(word: &[u8]) -> Result<u64, OpFault>
     ensures number { IfOk result (λ number. (word.now ≡ decimal number) × (number < 2 ^ 64)) }
-    ensures fault { IfErr result (λ fault. (fault ≡ OpFault.BadNumber) × ¬ (IsNumberText word.now)) }
+    ensures fault { IfErr result (λ fault. (fault ≡ OpFault.BadNumber)
+        × ¬ (IsNumberText word.now)) }
 {
     read_number(word).ok_or(OpFault::BadNumber)
 }
 
 fn amount_of(word: &[u8]) -> Result<Amount, OpFault>
     ensures number { IfOk result (λ number. (word.now ≡ decimal number) × IsAmount number) }
-    ensures fault { IfErr result (λ fault. (fault ≡ OpFault.BadNumber) × ¬ (IsAmountText word.now)) }
+    ensures fault { IfErr result (λ fault. (fault ≡ OpFault.BadNumber)
+        × ¬ (IsAmountText word.now)) }
 {
     let number = number_of(word)?;
     if !is_amount(number) {
@@ -122,7 +127,8 @@ fn is_amount(number: u64) -> bool
 
 fn queue_of(word: &[u8]) -> Result<bool, OpFault>
     ensures queue { IfOk result (λ queue. word.now ≡ queue_word queue) }
-    ensures fault { IfErr result (λ fault. (fault ≡ OpFault.BadNumber) × ¬ (IsQueueText word.now)) }
+    ensures fault { IfErr result (λ fault. (fault ≡ OpFault.BadNumber)
+        × ¬ (IsQueueText word.now)) }
 {
     match word {
         b"0" => Ok(false),
@@ -133,7 +139,8 @@ fn queue_of(word: &[u8]) -> Result<bool, OpFault>
 
 fn access_of(word: &[u8]) -> Result<Access, OpFault>
     ensures access { IfOk result (λ access. word.now ≡ access_word access) }
-    ensures fault { IfErr result (λ fault. (fault ≡ OpFault.BadNumber) × ¬ (IsAccessText word.now)) }
+    ensures fault { IfErr result (λ fault. (fault ≡ OpFault.BadNumber)
+        × ¬ (IsAccessText word.now)) }
 {
     match word {
         b"0" => Ok(Access::Read),

@@ -1,4 +1,4 @@
-use Rattle.std.proofs.Common.{sym, ◌∙◌, arith}
+use Rattle.std.proofs.Common.{sym, ◌∙◌}
 use Rattle.lr_frames.proofs.Outcomes.{call_bad}
 use Rattle.lr_frames.proofs.call.read_keyed.Goals as goal
 

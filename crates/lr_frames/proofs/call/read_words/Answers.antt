@@ -1,7 +1,6 @@
 use Rattle.std.proofs.Common.{◌≡◌, List, ℕ, suc, ◌∷◌, length, sym, ap, ◌∙◌, arith}
 use Rattle.lr_frames.specs.Given.{given_words}
-use Rattle.lr_frames.specs.Shape.{shape_of, shape_len}
-use Rattle.lr_frames.specs.Words.{word_at}
+use Rattle.lr_frames.specs.Shape.{shape_len}
 use Rattle.lr_frames.proofs.GivenLaws.{are_words}
 use Rattle.lr_frames.proofs.call.read_words.Goals as goal
 

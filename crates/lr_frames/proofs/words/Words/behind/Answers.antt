@@ -1,4 +1,4 @@
-use Rattle.std.proofs.Common.{◌≡◌, drop, map, sym, ap, ◌∙◌}
+use Rattle.std.proofs.Common.{drop, map, sym, ap, ◌∙◌}
 use Rattle.std.proofs.lemmas.List.{drop-map}
 use Rattle.lr_frames.specs.Words.{bulk_text}
 use Rattle.lr_frames.proofs.BulkLaws.{drop-are_bulks}
