@@ -1,6 +1,6 @@
 -- What is known of the calls of a race's threads, and of the history that they made.
 use Rattle.std.proofs.Common.{◌≡◌, ◌≢◌, ℕ, ◌+◌, ◌^◌, ◌<◌, ◌≤◌, ◌==◌, cond, Bool, true, false, if◌then◌else◌, List, [], ◌∷◌, ◌++◌, length, Option, Some, None, refl, sym, ap, ◌∙◌, subst, arith, get_or, length-append}
-use Rattle.std.specs.Prelude.{Result, Ok, min}
+use Rattle.std.specs.Prelude.{Result, Ok, min, ◌↔◌, IsTrue}
 use Rattle.std.specs.Bool.{OnTrue}
 use Rattle.std.specs.List.{All}
 use Rattle.std.proofs.Math.Nat.{le-max_right, min-eq_left}
@@ -16,7 +16,7 @@ use Rattle.lr_objects.specs.declared.op.Op.{Op}
 use Rattle.lr_model.specs.History.{State, IsLegal, state_at_start}
 use Rattle.lr_model.specs.Moment.{later}
 use Rattle.lr_server.specs.declared.answered.Answer.{Answer}
-use Rattle.lr_server.specs.declared.answered.Answer.TheVariants.{Reply, Queued, OnlySubscribed}
+use Rattle.lr_server.specs.declared.answered.Answer.TheVariants.{OnlySubscribed}
 use Rattle.lr_server.specs.declared.answered.Answered.{Answered}
 use Rattle.lr_server.specs.declared.fault.StepFault.{StepFault}
 use Rattle.lr_server.specs.Server.{ServerValue, state_of, entry_of, is_only_subscribed, connection_of, told_by, result_in}
@@ -29,15 +29,12 @@ use Rattle.lr_drill.specs.Passes.{MadeCall}
 
 -- One call.
 
--- an answer that tells something tells of an entry
-made_if : (stopped : Bool) (entry : Entry) (state : State) (answer : Answer)
-    → answer ≢ OnlySubscribed
-    → told_by answer ≡ result_in state (if stopped then None else Some entry)
+-- what is answered to a call that isn't refused was made
+made_if : (stopped : Bool) (entry : Entry) (answer : Answer) → answer ≢ OnlySubscribed
+    → ((answer ≡ OnlySubscribed) ↔ IsTrue stopped)
     → (if stopped then None else Some entry) ≡ Some entry
-made_if true entry state (Reply reply) told is = absurd (cc)
-made_if true entry state (Queued count) told is = absurd (cc)
-made_if true entry state OnlySubscribed told is = absurd (told refl)
-made_if false entry state answer told is = refl
+made_if true entry answer told only = absurd (told (only.1 refl))
+made_if false entry answer told only = refl
 
 reached : (now reading : ℕ) → reading ≤ last_moment → reading ≤ later now reading
 reached now reading small =
@@ -52,8 +49,8 @@ made_call before now number answered small served told =
     let server = server_at served.history in
     let act = acts.Call (race_op before.caller number) in
     let entry = entry_of server number before.caller 0 act in
-    let made = made_if (is_only_subscribed act (connection_of server 0)) entry (state_of server)
-    answered.answer told served.told.answer in
+    let made = made_if (is_only_subscribed act (connection_of server 0)) entry answered.answer told
+    served.only_subscribed in
     let had = subst (λ (m : Option Entry). HadTurn before served.history m now) made served.ok in
     record {
       entry = entry;

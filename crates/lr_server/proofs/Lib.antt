@@ -1,4 +1,5 @@
 pub mod Allowed
+pub mod Asked
 pub mod Done
 pub mod KindLaws
 pub mod KindsLater
@@ -12,4 +13,5 @@ pub mod CountdownsStay
 pub mod Numbers
 pub mod Runs
 pub mod Serves
+pub mod Shown
 pub mod Stays

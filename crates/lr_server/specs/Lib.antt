@@ -3,3 +3,4 @@ pub mod Stands
 pub mod Done
 pub mod Serving
 pub mod Looks
+pub mod Looked

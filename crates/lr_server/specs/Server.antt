@@ -147,6 +147,7 @@ dropped_of None board = []
 -- the result that an answer tells: none where nothing was done
 abbrev pub told_by : Answer → Option EntryResult
 told_by (answers.Reply reply) = Some (Replies reply)
+told_by (answers.Look frame) = None
 told_by (answers.Queued count) = Some (Counts count)
 told_by answers.OnlySubscribed = None
 

@@ -15,6 +15,7 @@ pub(crate) fn act_of(request: &Request) -> Act
         Request::Call(op) => Act::Call(*op),
         Request::Subscribe(channels) => Act::Subscribe(channels.as_slice()[0]),
         Request::Unsubscribe(channels) => Act::Unsubscribe(channels.as_slice()[0]),
+        Request::Look(_) | Request::Ping(_) => unreachable!(),
         Request::UnsubscribeAll | Request::Quit => unreachable!(),
     }
 }

@@ -3,13 +3,16 @@ ghost use Rattle.std.specs.Prelude.{◌≡◌, None, []};
 use lr_names::Post;
 use lr_objects::Reply;
 use lr_pubsub::Conns;
+use lr_resp::Frame;
 use std::alloc::Global;
 
 /// What a request was answered.
-#[derive(Clone, Copy, PartialEq, Eq)]
+#[derive(Drop)]
 pub enum Answer {
     /// The reply to a call.
     Reply(Reply),
+    /// What a look at the keys shows, or the answer of a ping. Nothing was done.
+    Look(Frame),
     /// The acknowledgement waits in the outbox of the connection, which now has so many channels.
     Queued(u32),
     /// A connection that has a channel only subscribes, leaves channels, and ends. Nothing was

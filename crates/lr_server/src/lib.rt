@@ -7,12 +7,15 @@ mod answered;
 mod calls;
 mod fault;
 mod keys_and_board;
+mod laws;
 mod looks;
 mod state;
 
 pub use answered::{Answer, Answered};
 pub use fault::StepFault;
-pub use lr_commands::{Channels, Request};
+pub use laws::looks_are_told_by_the_objects;
+pub use lr_commands::{Channels, Look, Request};
 pub use lr_history::History;
 pub use lr_pubsub::{Conns, Pushes};
+pub use lr_resp::Frame;
 pub use state::ServerState;

@@ -1,4 +1,4 @@
-ghost use Rattle.std.specs.Prelude.{◌≡◌, ◌≢◌, ◌↔◌, ◌<◌, ◌≤◌, ◌+◌, ◌++◌, ◌∷◌, false, nat_le, [], Some, IsTrue, IsSome, length, IsOk, IfOk, OnOk, OnErr};
+ghost use Rattle.std.specs.Prelude.{◌≡◌, ◌≢◌, ◌↔◌, ◌<◌, ◌≤◌, ◌+◌, ◌++◌, ◌∷◌, false, nat_le, [], ℕ, Some, IsTrue, IsSome, length, IsOk, IfOk, OnOk, OnErr};
 ghost use Rattle.lr_limits.specs.Limits.{connection_limit, entry_limit, last_moment, watchdog_lease};
 ghost use Rattle.lr_names.specs.Channel.{channel_wakes};
 ghost use Rattle.lr_names.specs.declared.kind.Wakes.TheVariants.{All};
@@ -11,22 +11,26 @@ ghost use Rattle.lr_model.specs.declared.entry.Act.TheVariants as acts;
 ghost use Rattle.lr_model.specs.Answer.{reply_of};
 ghost use Rattle.lr_model.specs.Board.{is_open, free_numbers};
 ghost use Rattle.lr_model.specs.History.{Opens, Closes, HandsOut, state_at_start, result_of, CanDrain, IsAllowed, IsLegal};
+ghost use Rattle.lr_commands.specs.declared.request.Request.TheVariants as requests;
 ghost use Rattle.lr_history.specs.Limit.{is_refused};
 ghost use Rattle.lr_pubsub.specs.Connection.{is_in_flight};
-ghost use Rattle.lr_server.specs.Server.{state_of, connection_of, with_entry, moment_at, entry_of, act_of, is_asked, is_only_subscribed, is_stopped, takes_some, entry_made, drain_made, with_made, result_made, post_made, reached_of, dropped_of, told_by, IsTold, IsHandedOut, fault_of, drain_fault};
+ghost use Rattle.lr_server.specs.Server.{state_of, connection_of, with_entry, moment_at, entry_of, act_of, is_asked, is_subscriber, is_only_subscribed, is_stopped, takes_some, entry_made, drain_made, with_made, result_made, post_made, reached_of, dropped_of, told_by, IsTold, IsHandedOut, fault_of, drain_fault};
+ghost use Rattle.lr_server.specs.Looked.{is_quiet, is_step, is_out_of_place, IsAnsweredQuietly, quiet_fault};
 
 use crate::act::act_of;
 use crate::answered::{Answer, Answered};
 use crate::fault::StepFault;
 use crate::keys_and_board::make;
 use crate::looks;
-use lr_commands::Request;
+use lr_commands::{Look, Request};
 use lr_history::{Act, Entry, History};
 use lr_keys::KeySpace;
 use lr_limits::{LAST_MOMENT, MOST_CONNECTIONS, MOST_ENTRIES};
+use lr_looks::pong;
 use lr_names::{Channel, Owner};
 use lr_objects::Want;
 use lr_pubsub::{Board, Pushes};
+use lr_text::Text;
 use std::alloc::{AllocError, Global};
 use std::marker::Model;
 
@@ -110,12 +114,14 @@ impl ServerState {
     }
 
     /// Does what a request of an open connection asks, for a caller. It is a call, or one channel
-    /// is subscribed to or left.
+    /// is subscribed to or left, or a look at the keys, or a ping.
     ///
-    /// `OnlySubscribed` is answered exactly where a connection that has a channel calls; it makes
-    /// no entry. Of the faults, `HistoryFull` comes exactly where an entry would be made and the
-    /// history takes only closes; else `Dropped` exactly where the connection was dropped, or
-    /// should send an acknowledgement and its outbox is full. An error changes nothing.
+    /// `OnlySubscribed` is answered exactly where a connection that has a channel calls or looks; it
+    /// makes no entry. Nor does a look or a ping, and it changes nothing: a look sees the keys as
+    /// the steps so far left them, at the later one of the last step's moment and the reading. Of
+    /// the faults, `HistoryFull` comes exactly where an entry would be made and the history takes
+    /// only closes; else `Dropped` exactly where the connection was dropped, or should send an
+    /// acknowledgement and its outbox is full. An error changes nothing.
     pub fn step(
         &mut self,
         reading: u64,
@@ -124,7 +130,7 @@ impl ServerState {
         request: &Request,
     ) -> Result<Answered, StepFault>
         requires open { IsTrue (is_open (connection_of self.old conn)) }
-        requires request { IsSome (act_of request.now) }
+        requires request { IsTrue (is_step request.now) }
         ensures answer { (act : Act) → act_of request.now ≡ Some act → IfOk result (λ a.
             let made = entry_made self.old reading caller conn act in
             told_by a.answer ≡ result_made self.old made) }
@@ -139,6 +145,11 @@ impl ServerState {
             a.dropped ≡ dropped_of (post_made self.old made) (state_of self.old).board) }
         ensures entry { (act : Act) → act_of request.now ≡ Some act → OnOk result (
             self.new ≡ with_made self.old (entry_made self.old reading caller conn act)) }
+        ensures quietly { IsTrue (is_quiet request.now)
+            → IfOk result (IsAnsweredQuietly self.old reading conn request.now) }
+        ensures unchanged { IsTrue (is_quiet request.now) → self.new ≡ self.old }
+        ensures only_subscribed { IfOk result (λ a. (a.answer ≡ Answer.OnlySubscribed)
+            ↔ IsTrue (is_out_of_place request.now (connection_of self.old conn))) }
 
         // Each fault but want of memory has its cause.
         ensures full { (act : Act) → act_of request.now ≡ Some act
@@ -147,24 +158,19 @@ impl ServerState {
         ensures dropped { (act : Act) → act_of request.now ≡ Some act
             → (result ≡ Err StepFault.Dropped)
             ↔ (fault_of self.old conn act ≡ Some StepFault.Dropped) }
+        ensures quiet_not_full { IsTrue (is_quiet request.now)
+            → result ≢ Err StepFault.HistoryFull }
+        ensures quiet_dropped { IsTrue (is_quiet request.now) → (result ≡ Err StepFault.Dropped)
+            ↔ (quiet_fault (connection_of self.old conn) request.now ≡ Some StepFault.Dropped) }
         ensures not_too_many { result ≢ Err StepFault.TooManyConnections }
-        ensures subscriber { (act : Act) → act_of request.now ≡ Some act
-            → IsTrue (is_only_subscribed act (connection_of self.old conn)) → IsOk result }
+        ensures subscriber { IsTrue (is_out_of_place request.now (connection_of self.old conn))
+            → IsOk result }
         ensures err { OnErr result (self.new ≡ self.old) }
     {
-        let act = act_of(request);
-        if self.is_only_subscribed(conn, &act) {
-            return Ok(Answered::without_post(self.alloc, Answer::OnlySubscribed));
-        }
-        if self.is_full() {
-            return Err(StepFault::HistoryFull);
-        }
-        if self.is_stopped(conn, &act) {
-            return Err(StepFault::Dropped);
-        }
-        match self.perform(reading, caller, conn, act) {
-            Ok(answered) => Ok(answered),
-            Err(_) => Err(StepFault::NoMemory),
+        match request {
+            Request::Look(look) => self.look(reading, conn, look),
+            Request::Ping(text) => self.ping(conn, text),
+            _ => self.act(reading, caller, conn, act_of(request)),
         }
     }
 
@@ -269,6 +275,92 @@ impl ServerState {
         looks::would_wait(&self.keys, self.moment_at(reading), want, owner)
     }
 
+    // Does what an act of an open connection asks, for a caller.
+    fn act(&mut self, reading: u64, caller: u64, conn: u32, act: Act) -> Result<Answered, StepFault>
+        requires open { IsTrue (is_open (connection_of self.old conn)) }
+        requires asked { IsTrue (is_asked act) }
+        ensures told { IfOk result (IsTold (state_of self.old)
+            (entry_made self.old reading caller conn act)) }
+        ensures entry { OnOk result (
+            self.new ≡ with_made self.old (entry_made self.old reading caller conn act)) }
+        ensures only_subscribed { IfOk result (λ a. (a.answer ≡ Answer.OnlySubscribed)
+            ↔ IsTrue (is_only_subscribed act (connection_of self.old conn))) }
+        ensures full { (result ≡ Err StepFault.HistoryFull)
+            ↔ (fault_of self.old conn act ≡ Some StepFault.HistoryFull) }
+        ensures dropped { (result ≡ Err StepFault.Dropped)
+            ↔ (fault_of self.old conn act ≡ Some StepFault.Dropped) }
+        ensures not_too_many { result ≢ Err StepFault.TooManyConnections }
+        ensures subscriber { IsTrue (is_only_subscribed act (connection_of self.old conn))
+            → IsOk result }
+        ensures err { OnErr result (self.new ≡ self.old) }
+    {
+        if self.is_only_subscribed(conn, &act) {
+            return Ok(Answered::without_post(self.alloc, Answer::OnlySubscribed));
+        }
+        if self.is_full() {
+            return Err(StepFault::HistoryFull);
+        }
+        if self.is_stopped(conn, &act) {
+            return Err(StepFault::Dropped);
+        }
+        match self.perform(reading, caller, conn, act) {
+            Ok(answered) => Ok(answered),
+            Err(_) => Err(StepFault::NoMemory),
+        }
+    }
+
+    // Answers a look at the keys.
+    fn look(&self, reading: u64, conn: u32, look: &Look) -> Result<Answered, StepFault>
+        ensures quietly { IfOk result
+            (IsAnsweredQuietly self.now reading conn (requests.Look look.now)) }
+        ensures only_subscribed { IfOk result (λ a. (a.answer ≡ Answer.OnlySubscribed)
+            ↔ IsTrue (is_subscriber (connection_of self.now conn))) }
+        ensures not_full { result ≢ Err StepFault.HistoryFull }
+        ensures dropped { (result ≡ Err StepFault.Dropped)
+            ↔ (quiet_fault (connection_of self.now conn) (requests.Look look.now)
+            ≡ Some StepFault.Dropped) }
+        ensures not_too_many { result ≢ Err StepFault.TooManyConnections }
+        ensures subscriber { IsTrue (is_subscriber (connection_of self.now conn)) → IsOk result }
+    {
+        if self.is_subscriber(conn) {
+            return Ok(Answered::without_post(self.alloc, Answer::OnlySubscribed));
+        }
+        if self.board.is_dropped(conn) {
+            return Err(StepFault::Dropped);
+        }
+        match lr_looks::look(self.alloc, &self.keys, self.moment_at(reading), look) {
+            Ok(frame) => Ok(Answered::without_post(self.alloc, Answer::Look(frame))),
+            Err(_) => Err(StepFault::NoMemory),
+        }
+    }
+
+    // Answers a ping.
+    fn ping(&self, conn: u32, text: &Option<Text>) -> Result<Answered, StepFault>
+        ensures quietly { (reading : ℕ) → IfOk result
+            (IsAnsweredQuietly self.now reading conn (requests.Ping text.now)) }
+        ensures not_refused { IfOk result (λ a. a.answer ≢ Answer.OnlySubscribed) }
+        ensures not_full { result ≢ Err StepFault.HistoryFull }
+        ensures dropped { (result ≡ Err StepFault.Dropped)
+            ↔ (quiet_fault (connection_of self.now conn) (requests.Ping text.now)
+            ≡ Some StepFault.Dropped) }
+        ensures not_too_many { result ≢ Err StepFault.TooManyConnections }
+    {
+        if self.board.is_dropped(conn) {
+            return Err(StepFault::Dropped);
+        }
+        match pong(self.alloc, self.is_subscriber(conn), text) {
+            Ok(frame) => Ok(Answered::without_post(self.alloc, Answer::Look(frame))),
+            Err(_) => Err(StepFault::NoMemory),
+        }
+    }
+
+    // Whether a connection has a channel.
+    fn is_subscriber(&self, conn: u32) -> bool
+        ensures { result ≡ is_subscriber (connection_of self.now conn) }
+    {
+        self.board.channel_count(conn) >= 1
+    }
+
     // Whether the history takes only closes.
     fn is_full(&self) -> bool
         ensures { result ≡ nat_le entry_limit (length self.now.entries) }
@@ -301,7 +393,7 @@ impl ServerState {
     fn is_only_subscribed(&self, conn: u32, act: &Act) -> bool
         ensures { result ≡ is_only_subscribed act.now (connection_of self.now conn) }
     {
-        matches!(act, Act::Call(_)) && self.board.channel_count(conn) >= 1
+        matches!(act, Act::Call(_)) && self.is_subscriber(conn)
     }
 
     // Whether a connection that was dropped, or reads too slowly, stops an act.

@@ -176,6 +176,7 @@ served_on u v now reading conn act (Ok answered) same mine grew s =
       history = s.history;
       told = subst (λ c. IsTold (state_of server) (entry_made server reading c conn act) answered)
           same.caller s.told;
+      only_subscribed = s.only_subscribed;
       ok = subst (λ c. HadTurn u s.history (entry_made server reading c conn act) now) same.caller
           (had_turn_on u v now s.history (entry_made server reading v.caller conn act) same mine
           grew s.ok);
@@ -187,6 +188,7 @@ served_on u v now reading conn act (Ok answered) same mine grew s =
 served_on u v now reading conn act (Err fault) same mine grew s = record {
   history = s.history;
   told = tt;
+  only_subscribed = tt;
   ok = tt;
   err = had_turn_on u v now s.history None same mine grew s.err;
   full = s.full;

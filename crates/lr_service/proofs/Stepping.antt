@@ -1,5 +1,5 @@
 -- What the server's steps come to for the pass that made them.
-use Rattle.std.proofs.Common.{◌≡◌, ◌≢◌, ◌↔◌, ℕ, Bool, true, false, if◌then◌else◌, List, [], ◌∷◌, Option, Some, None, refl, sym, ap, ◌∙◌, subst, eq-eqb, inl, inr, ◌++◌}
+use Rattle.std.proofs.Common.{◌≡◌, ◌≢◌, ◌↔◌, ℕ, Bool, true, false, if◌then◌else◌, List, [], ◌∷◌, Option, Some, None, refl, sym, ap, ◌∙◌, subst, eq-eqb, ◌⊎◌, inl, inr, ◌++◌}
 use Rattle.std.specs.Prelude.{Result, Ok, Err, IfOk, OnOk, OnErr, IsSome, IsTrue}
 use Rattle.std.specs.Option.{ForSome}
 use Rattle.lr_commands.specs.declared.request.Request.{Request}
@@ -10,12 +10,14 @@ use Rattle.lr_names.specs.declared.post.Push.{Push}
 use Rattle.lr_model.specs.declared.entry.Act.{Act}
 use Rattle.lr_model.specs.declared.entry.Act.TheVariants as acts
 use Rattle.lr_model.specs.declared.entry.Entry.{Entry}
-use Rattle.lr_model.specs.Board.{free_numbers, Board}
+use Rattle.lr_model.specs.Board.{free_numbers, Board, Connection}
 use Rattle.lr_model.specs.History.{State, Opens, result_of, after, state_at_start, IsLegal}
+use Rattle.lr_server.specs.declared.answered.Answer.TheVariants as answers
 use Rattle.lr_server.specs.declared.answered.Answered.{Answered}
 use Rattle.lr_server.specs.declared.fault.StepFault.{StepFault}
 use Rattle.lr_server.specs.declared.fault.StepFault.TheVariants.{TooManyConnections, HistoryFull, Dropped}
 use Rattle.lr_server.specs.Server.{ServerValue, state_of, connection_of, entry_of, act_of, is_only_subscribed, takes_some, entry_made, drain_made, result_made, result_in, post_in, reached_of, dropped_of, told_by, IsTold, IsHandedOut, fault_of, drain_fault, act_on_one, with_entry, with_made}
+use Rattle.lr_server.specs.Looked.{IsAnsweredQuietly, is_out_of_place, is_quiet, is_step, quiet_fault}
 use Rattle.lr_turnstile.specs.declared.view.View.{View}
 use Rattle.lr_service.specs.declared.fault.TryFault.{TryFault}
 use Rattle.lr_service.specs.declared.fault.TryFault.TheVariants as tries
@@ -24,11 +26,12 @@ use Rattle.lr_turnstile.specs.Views.{Grew, HasOwn, IsSame, looked, took}
 use Rattle.lr_service.specs.Closes.{MayClose, IsOwnClose, has_open}
 use Rattle.lr_service.specs.Served.{server_at, IsServed}
 use Rattle.lr_service.specs.Passes.{IsOwnConnection, CanClose, KeepsConnections}
-use Rattle.lr_service.specs.Calls.{HadTurn, IsServedTo, IsTried, IsOpened, IsDrained, IsClosed}
+use Rattle.lr_service.specs.Calls.{HadTurn, IsServedTo, IsShownTo, IsTried, IsTriedShown, IsOpened, IsDrained, IsClosed}
 use Rattle.lr_service.proofs.Openers.{has_open-push, IsLegal-right, apart_if_free, first_stays}
+use Rattle.lr_server.proofs.Asked.{asked_or_quiet, out_of_place}
 use Rattle.lr_server.proofs.Serves.{least_is_free}
 use Rattle.lr_service.proofs.Connections.{own_is, keeps_by, keeps_others}
-use Rattle.lr_service.proofs.HadTurns.{made_by, opened_by, had_by, had_opened, had_turn_on, same_if}
+use Rattle.lr_service.proofs.HadTurns.{made_by, made_is, opened_by, had_by, had_opened, had_turn_on, same_if}
 
 -- What is so of each entry that a step can make.
 
@@ -78,10 +81,6 @@ module _ (P : Entry → Type 0) where
 
 -- What a request asks.
 
-pub asked_act : (o : Option Act) → IsSome o → (act : Act) × (o ≡ Some act)
-asked_act (Some act) some = (act, refl)
-asked_act None some = absurd (cc)
-
 -- it isn't a close
 pub asked_may : (request : Request) (act : Act) → act_of request ≡ Some act
     → (state : State) (entry : Entry) → MayClose state entry act
@@ -100,9 +99,11 @@ asked_may request acts.Close is state entry = absurd (no_close request is)
 
     no_close : (r : Request) → act_of r ≡ Some acts.Close → ⊥
     no_close (requests.Call op) e = cc
+    no_close (requests.Look look) e = cc
     no_close (requests.Subscribe channels) e = one acts.Subscribe (λ c same. cc) channels e
     no_close (requests.Unsubscribe channels) e = one acts.Unsubscribe (λ c same. cc) channels e
     no_close requests.UnsubscribeAll e = cc
+    no_close (requests.Ping text) e = cc
     no_close requests.Quit e = cc
 
 -- A request.
@@ -121,6 +122,8 @@ pub record IsStep (reading caller conn : ℕ) (act : Act) (result : Result Answe
     (found : Option Entry) (server : ServerValue) : Type 0 where
   pub made : found ≡ made_by result (entry_made server reading caller conn act)
   pub told : IfOk result (IsTold (state_of server) (entry_made server reading caller conn act))
+  pub only_subscribed : IfOk result (λ a. (a.answer ≡ answers.OnlySubscribed)
+      ↔ IsTrue (is_only_subscribed act (connection_of server conn)))
   pub full : (result ≡ Err HistoryFull) ↔ (fault_of server conn act ≡ Some HistoryFull)
   pub dropped : (result ≡ Err Dropped) ↔ (fault_of server conn act ≡ Some Dropped)
   pub not_too_many : result ≢ Err TooManyConnections
@@ -138,12 +141,94 @@ served_here v now server reading caller conn act result found served same is had
     (subst (λ o. HadTurn v v.seen o now) here.made had) in record {
       history = v.seen;
       told = here.told;
+      only_subscribed = here.only_subscribed;
       ok = both.0;
       err = both.1;
       full = here.full;
       dropped = here.dropped;
       not_too_many = here.not_too_many;
     }
+
+-- what it says of an act whose request is refused on a connection that has a channel
+pub refused_if : (request : Request) (act : Act) (connection : Connection)
+    (result : Result Answered StepFault) → act_of request ≡ Some act
+    → IfOk result (λ a. (a.answer ≡ answers.OnlySubscribed)
+    ↔ IsTrue (is_out_of_place request connection))
+    → IfOk result (λ a. (a.answer ≡ answers.OnlySubscribed)
+    ↔ IsTrue (is_only_subscribed act connection))
+refused_if request act connection result asked refused =
+    subst (λ b. IfOk result (λ a. (a.answer ≡ answers.OnlySubscribed) ↔ IsTrue b))
+    (out_of_place request act connection asked) refused
+
+-- A look or a ping.
+
+pub shown_here : (v now : View) (server : ServerValue) (reading conn : ℕ) (request : Request)
+    (result : Result Answered StepFault) → IsServed server v.seen
+    → IfOk result (IsAnsweredQuietly server reading conn request) → result ≢ Err HistoryFull
+    → ((result ≡ Err Dropped)
+    ↔ (quiet_fault (connection_of server conn) request ≡ Some Dropped))
+    → result ≢ Err TooManyConnections → HadTurn v v.seen None now
+    → IsShownTo v reading conn request result now
+shown_here v now server reading conn request result served answered full dropped many had =
+    record {
+      history = v.seen;
+      answered = subst (λ s. IfOk result (IsAnsweredQuietly s reading conn request)) served.is
+          answered;
+      turn = had;
+      not_full = full;
+      dropped = subst (λ s. (result ≡ Err Dropped)
+          ↔ (quiet_fault (connection_of s conn) request ≡ Some Dropped)) served.is dropped;
+      not_too_many = many;
+    }
+
+-- the same as the pass knew it before it had the turn
+pub shown_on : (u v now : View) (reading conn : ℕ) (request : Request)
+    (result : Result Answered StepFault) → IsSame u v → v.mine ≡ u.mine → Grew u v.seen
+    → IsShownTo v reading conn request result now → IsShownTo u reading conn request result now
+shown_on u v now reading conn request result same mine grew s = record {
+  history = s.history;
+  answered = s.answered;
+  turn = had_turn_on u v now s.history None same mine grew s.turn;
+  not_full = s.not_full;
+  dropped = s.dropped;
+  not_too_many = s.not_too_many;
+}
+
+-- What a request made.
+
+-- what the server has now was made by a pass that may make it
+pub record IsMade (v : View) (old new : ServerValue) : Type 0 where
+  pub made : Option Entry
+  pub is : new ≡ with_made old made
+  pub may : ForSome made (λ entry. MayClose (after (state_at_start 0) v.seen) entry entry.act)
+  pub own : ForSome made (λ entry. entry.caller ≡ v.caller)
+
+pub made_for : (v : View) (old new : ServerValue) (reading caller conn : ℕ) (request : Request)
+    (result : Result Answered StepFault) → caller ≡ v.caller → IsTrue (is_step request)
+    → (IsTrue (is_quiet request) → new ≡ old)
+    → ((act : Act) → act_of request ≡ Some act
+    → OnOk result (new ≡ with_made old (entry_made old reading caller conn act)))
+    → OnErr result (new ≡ old) → IsMade v old new
+made_for v old new reading caller conn request result its step quiet acted err =
+    by (asked_or_quiet request step)
+  where
+    by : IsTrue (is_quiet request) ⊎ ((act : Act) × (act_of request ≡ Some act))
+        → IsMade v old new
+    by (inl is_quiet) = record {
+      made = None;
+      is = quiet is_quiet;
+      may = for_none (λ entry. MayClose (after (state_at_start 0) v.seen) entry entry.act);
+      own = for_none (λ entry. entry.caller ≡ v.caller);
+    }
+    by (inr asked) =
+        let act : Act = asked.0 in record {
+          made = made_by result (entry_made old reading caller conn act);
+          is = made_is old new result (entry_made old reading caller conn act)
+              (acted act asked.1) err;
+          may = for_step (λ entry. MayClose (after (state_at_start 0) v.seen) entry entry.act)
+              result old reading caller conn act (asked_may request act asked.1 _ _);
+          own = for_step (λ entry. entry.caller ≡ v.caller) result old reading caller conn act its;
+        }
 
 -- A drain.
 
@@ -307,7 +392,7 @@ not_close request act is close =
 abbrev IsKept : Entry → Type 0
 IsKept entry = entry.act ≢ acts.Close
 
-pub served_keeps : (u now : View) (reading conn : ℕ) (request : Request) (act : Act)
+served_keeps : (u now : View) (reading conn : ℕ) (request : Request) (act : Act)
     (result : Result Answered StepFault) → act_of request ≡ Some act
     → IsServedTo u reading conn act result now → KeepsConnections u now
 served_keeps u now reading conn request act (Ok answered) asked s =
@@ -318,12 +403,32 @@ served_keeps u now reading conn request act (Ok answered) asked s =
 served_keeps u now reading conn request act (Err fault) asked s =
     keeps_by u now None s.err.mine (for_none IsKept)
 
+shown_keeps : (u now : View) (reading conn : ℕ) (request : Request)
+    (result : Result Answered StepFault) → IsShownTo u reading conn request result now
+    → KeepsConnections u now
+shown_keeps u now reading conn request result s = keeps_by u now None s.turn.mine (for_none IsKept)
+
+-- each request
+pub request_keeps : (u now : View) (reading conn : ℕ) (request : Request)
+    (result : Result Answered StepFault) → IsTrue (is_step request)
+    → ((act : Act) → act_of request ≡ Some act → IsServedTo u reading conn act result now)
+    → (IsTrue (is_quiet request) → IsShownTo u reading conn request result now)
+    → KeepsConnections u now
+request_keeps u now reading conn request result step served shown =
+    by (asked_or_quiet request step)
+  where
+    by : IsTrue (is_quiet request) ⊎ ((act : Act) × (act_of request ≡ Some act))
+        → KeepsConnections u now
+    by (inl quiet) = shown_keeps u now reading conn request result (shown quiet)
+    by (inr asked) =
+        served_keeps u now reading conn request asked.0 result asked.1 (served asked.0 asked.1)
+
 busy_keeps : (u now : View) (word : ℕ) → WasBusy u word now → KeepsConnections u now
 busy_keeps u now word (inl b) =
     keeps_by u now None (ap (λ z. z.mine) b.look.view) (for_none IsKept)
 busy_keeps u now word (inr b) = keeps_by u now None (ap (λ z. z.mine) b.view) (for_none IsKept)
 
-pub tried_keeps : (u now : View) (reading conn : ℕ) (request : Request) (act : Act)
+tried_keeps : (u now : View) (reading conn : ℕ) (request : Request) (act : Act)
     (result : Result Answered TryFault) → act_of request ≡ Some act
     → IsTried u reading conn act result now → KeepsConnections u now
 tried_keeps u now reading conn request act (Ok answered) asked s =
@@ -332,6 +437,29 @@ tried_keeps u now reading conn request act (Err (tries.Step fault)) asked s =
     served_keeps u now reading conn request act (Err fault) asked s
 tried_keeps u now reading conn request act (Err (tries.Busy word)) asked s =
     busy_keeps u now word s
+
+tried_shown_keeps : (u now : View) (reading conn : ℕ) (request : Request)
+    (result : Result Answered TryFault) → IsTriedShown u reading conn request result now
+    → KeepsConnections u now
+tried_shown_keeps u now reading conn request (Ok answered) s =
+    shown_keeps u now reading conn request (Ok answered) s
+tried_shown_keeps u now reading conn request (Err (tries.Step fault)) s =
+    shown_keeps u now reading conn request (Err fault) s
+tried_shown_keeps u now reading conn request (Err (tries.Busy word)) s = busy_keeps u now word s
+
+pub try_keeps : (u now : View) (reading conn : ℕ) (request : Request)
+    (result : Result Answered TryFault) → IsTrue (is_step request)
+    → ((act : Act) → act_of request ≡ Some act → IsTried u reading conn act result now)
+    → (IsTrue (is_quiet request) → IsTriedShown u reading conn request result now)
+    → KeepsConnections u now
+try_keeps u now reading conn request result step tried shown =
+    by (asked_or_quiet request step)
+  where
+    by : IsTrue (is_quiet request) ⊎ ((act : Act) × (act_of request ≡ Some act))
+        → KeepsConnections u now
+    by (inl quiet) = tried_shown_keeps u now reading conn request result (shown quiet)
+    by (inr asked) =
+        tried_keeps u now reading conn request asked.0 result asked.1 (tried asked.0 asked.1)
 
 pub drained_keeps : (u now : View) (reading conn most : ℕ) (result : Result (List Push) StepFault)
     → IsDrained u reading conn most result now → KeepsConnections u now

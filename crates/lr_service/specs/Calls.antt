@@ -10,7 +10,10 @@ use Rattle.lr_names.specs.declared.post.Push.{Push}
 use Rattle.lr_server.specs.declared.answered.Answered.{Answered}
 use Rattle.lr_server.specs.declared.fault.StepFault.{StepFault}
 use Rattle.lr_server.specs.declared.fault.StepFault.TheVariants.{TooManyConnections, HistoryFull, Dropped}
-use Rattle.lr_server.specs.Server.{state_of, entry_of, entry_made, drain_made, result_made, IsTold, IsHandedOut, fault_of, drain_fault}
+use Rattle.lr_commands.specs.declared.request.Request.{Request}
+use Rattle.lr_server.specs.declared.answered.Answer.TheVariants as answers
+use Rattle.lr_server.specs.Server.{state_of, connection_of, entry_of, entry_made, drain_made, result_made, is_only_subscribed, IsTold, IsHandedOut, fault_of, drain_fault}
+use Rattle.lr_server.specs.Looked.{IsAnsweredQuietly, quiet_fault}
 use Rattle.lr_service.specs.declared.fault.TryFault.{TryFault}
 use Rattle.lr_service.specs.declared.fault.TryFault.TheVariants as tries
 use Rattle.lr_turnstile.specs.declared.view.View.{View}
@@ -40,12 +43,26 @@ pub record IsServedTo (before : View) (reading conn : ℕ) (act : Act)
   pub history : List Entry
   pub told : IfOk result (IsTold (state_of (server_at history))
       (entry_made (server_at history) reading before.caller conn act))
+  pub only_subscribed : IfOk result (λ a. (a.answer ≡ answers.OnlySubscribed)
+      ↔ IsTrue (is_only_subscribed act (connection_of (server_at history) conn)))
   pub ok : OnOk result (HadTurn before history
       (entry_made (server_at history) reading before.caller conn act) now)
   pub err : OnErr result (HadTurn before history None now)
   pub full : (result ≡ Err HistoryFull)
       ↔ (fault_of (server_at history) conn act ≡ Some HistoryFull)
   pub dropped : (result ≡ Err Dropped) ↔ (fault_of (server_at history) conn act ≡ Some Dropped)
+  pub not_too_many : result ≢ Err TooManyConnections
+
+-- A look or a ping was answered, as it is at the history that the pass had seen when it had the
+-- turn. No entry was made.
+pub record IsShownTo (before : View) (reading conn : ℕ) (request : Request)
+    (result : Result Answered StepFault) (now : View) : Type 0 where
+  pub history : List Entry
+  pub answered : IfOk result (IsAnsweredQuietly (server_at history) reading conn request)
+  pub turn : HadTurn before history None now
+  pub not_full : result ≢ Err HistoryFull
+  pub dropped : (result ≡ Err Dropped)
+      ↔ (quiet_fault (connection_of (server_at history) conn) request ≡ Some Dropped)
   pub not_too_many : result ≢ Err TooManyConnections
 
 -- the same of a call that waits for nobody, which may find the gate taken
@@ -55,6 +72,13 @@ IsTried before reading conn act (Ok answered) now =
 IsTried before reading conn act (Err (tries.Step fault)) now =
     IsServedTo before reading conn act (Err fault) now
 IsTried before reading conn act (Err (tries.Busy word)) now = WasBusy before word now
+
+abbrev pub IsTriedShown : View → ℕ → ℕ → Request → Result Answered TryFault → View → Type 0
+IsTriedShown before reading conn request (Ok answered) now =
+    IsShownTo before reading conn request (Ok answered) now
+IsTriedShown before reading conn request (Err (tries.Step fault)) now =
+    IsShownTo before reading conn request (Err fault) now
+IsTriedShown before reading conn request (Err (tries.Busy word)) now = WasBusy before word now
 
 -- A connection was opened, or not.
 pub record IsOpened (before : View) (reading : ℕ) (result : Result ℕ StepFault) (now : View)

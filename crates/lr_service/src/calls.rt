@@ -1,10 +1,11 @@
-ghost use Rattle.std.specs.Prelude.{◌≡◌, ◌≢◌, ℕ, Some, IsSome, IfOk};
+ghost use Rattle.std.specs.Prelude.{◌≡◌, ◌≢◌, ℕ, Some, IsTrue, IfOk};
 ghost use Rattle.lr_model.specs.declared.entry.Act.{Act};
 ghost use Rattle.lr_turnstile.specs.Views.{IsAlone, IsSame};
 ghost use Rattle.lr_turnstile.specs.Passes.{view, IsSamePass, HasNoTurn};
 ghost use Rattle.lr_server.specs.Server.{act_of};
+ghost use Rattle.lr_server.specs.Looked.{is_quiet, is_step};
 ghost use Rattle.lr_service.specs.Passes.{IsPassOf, IsOwnConnection, CanUse, CanClose, KeepsConnections};
-ghost use Rattle.lr_service.specs.Calls.{IsServedTo, IsTried, IsOpened, IsDrained, IsClosed};
+ghost use Rattle.lr_service.specs.Calls.{IsServedTo, IsShownTo, IsTried, IsTriedShown, IsOpened, IsDrained, IsClosed};
 
 use crate::fault::TryFault;
 use crate::served::Served;
@@ -15,11 +16,11 @@ use std::sync::Wait;
 
 impl Service {
     /// Does what a request asks, on connection 0 or one of the pass's own. It is a call, or one
-    /// channel is subscribed to or left.
+    /// channel is subscribed to or left, or a look at the keys, or a ping.
     ///
     /// Whatever is answered, the pass may have seen more than before. The answer and each fault are
     /// the server's at what the pass has then seen, up to the entry of this call, which is the last
-    /// that it has seen. After a fault no entry was made.
+    /// that it has seen. After a fault no entry was made, and a look or a ping makes none.
     pub fn call<R: Wait>(
         &self,
         rt: &R,
@@ -31,12 +32,14 @@ impl Service {
         requires of { IsPassOf self.now pass.old }
         requires free { HasNoTurn pass.old }
         requires conn { CanUse (view pass.old) conn }
-        requires request { IsSome (act_of request.now) }
+        requires request { IsTrue (is_step request.now) }
         ensures pass { IsSamePass pass.old pass.new }
         ensures free { HasNoTurn pass.new }
         ensures same { IsSame (view pass.old) (view pass.new) }
         ensures served { (act : Act) → act_of request.now ≡ Some act
             → IsServedTo (view pass.old) reading conn act result (view pass.new) }
+        ensures shown { IsTrue (is_quiet request.now)
+            → IsShownTo (view pass.old) reading conn request.now result (view pass.new) }
         ensures keeps { KeepsConnections (view pass.old) (view pass.new) }
     {
         let served = self.gate.enter(rt, pass);
@@ -56,12 +59,14 @@ impl Service {
         requires of { IsPassOf self.now pass.old }
         requires free { HasNoTurn pass.old }
         requires conn { CanUse (view pass.old) conn }
-        requires request { IsSome (act_of request.now) }
+        requires request { IsTrue (is_step request.now) }
         ensures pass { IsSamePass pass.old pass.new }
         ensures free { HasNoTurn pass.new }
         ensures same { IsSame (view pass.old) (view pass.new) }
         ensures tried { (act : Act) → act_of request.now ≡ Some act
             → IsTried (view pass.old) reading conn act result (view pass.new) }
+        ensures tried_shown { IsTrue (is_quiet request.now)
+            → IsTriedShown (view pass.old) reading conn request.now result (view pass.new) }
         ensures keeps { KeepsConnections (view pass.old) (view pass.new) }
         ensures alone { IsAlone (view pass.old) → (word : ℕ) → result ≢ Err (TryFault.Busy word) }
     {

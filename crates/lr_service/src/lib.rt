@@ -12,7 +12,9 @@ mod service;
 mod turns;
 
 pub use fault::TryFault;
-pub use lr_server::{Answer, Answered, Channels, History, Pushes, Request, ServerState, StepFault};
+pub use lr_server::{
+    Answer, Answered, Channels, Frame, History, Look, Pushes, Request, ServerState, StepFault,
+};
 pub use lr_turnstile::{Busy, Pass};
 pub use served::Served;
 pub use service::Service;

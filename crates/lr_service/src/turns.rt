@@ -1,12 +1,13 @@
-ghost use Rattle.std.specs.Prelude.{◌≡◌, Some, IsSome};
+ghost use Rattle.std.specs.Prelude.{◌≡◌, Some, IsTrue};
 ghost use Rattle.std.specs.Option.{ForSome};
 ghost use Rattle.lr_model.specs.declared.entry.Act.{Act};
 ghost use Rattle.lr_turnstile.specs.Views.{HasOwn, IsSame};
 ghost use Rattle.lr_turnstile.specs.Passes.{view, IsSamePass, HasTurn, HasNoTurn};
 ghost use Rattle.lr_server.specs.Server.{act_of};
+ghost use Rattle.lr_server.specs.Looked.{is_quiet, is_step};
 ghost use Rattle.lr_service.specs.Served.{IsServed};
 ghost use Rattle.lr_service.specs.Passes.{IsPassOf, CanUse};
-ghost use Rattle.lr_service.specs.Calls.{entries_with, HadTurn, IsServedTo};
+ghost use Rattle.lr_service.specs.Calls.{entries_with, HadTurn, IsServedTo, IsShownTo};
 
 use crate::served::Served;
 use crate::service::Service;
@@ -29,12 +30,14 @@ impl Service {
         requires own { HasOwn (view pass.old) }
         requires server { IsServed served.state (view pass.old).seen }
         requires conn { CanUse (view pass.old) conn }
-        requires request { IsSome (act_of request.now) }
+        requires request { IsTrue (is_step request.now) }
         ensures pass { IsSamePass pass.old pass.new }
         ensures free { HasNoTurn pass.new }
         ensures same { IsSame (view pass.old) (view pass.new) }
         ensures served { (act : Act) → act_of request.now ≡ Some act
             → IsServedTo (view pass.old) reading conn act result (view pass.new) }
+        ensures shown { IsTrue (is_quiet request.now)
+            → IsShownTo (view pass.old) reading conn request.now result (view pass.new) }
     {
         let Served { mut state } = served;
         let before = state.history().len();

@@ -97,6 +97,7 @@ pub reply_told : (answer : Answer) (reply : Reply) → told_by answer ≡ Some (
     → answer ≡ answers.Reply reply
 reply_told (answers.Reply r) reply same = let one : r ≡ reply = cc in ap answers.Reply one
 reply_told (answers.Queued count) reply same = absurd (cc same)
+reply_told (answers.Look frame) reply same = absurd (cc same)
 reply_told answers.OnlySubscribed reply same = absurd (cc same)
 
 pub same_reply : (a b : Reply) → answers.Reply a ≡ answers.Reply b → a ≡ b

@@ -71,6 +71,7 @@ pub count_told : (answer : Answer) (count : ℕ) → told_by answer ≡ Some (Co
     → answer ≡ answers.Queued count
 count_told (answers.Queued n) count same = let one : n ≡ count = cc in ap answers.Queued one
 count_told (answers.Reply reply) count same = absurd (cc same)
+count_told (answers.Look frame) count same = absurd (cc same)
 count_told answers.OnlySubscribed count same = absurd (cc same)
 
 pub same_count : (a b : ℕ) → answers.Queued a ≡ answers.Queued b → a ≡ b

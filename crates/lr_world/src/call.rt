@@ -65,20 +65,20 @@ fn told(answered: Answered) -> Called
         dropped,
     } = answered;
     Called {
-        reply: reply_of(answer),
+        reply: reply_of(&answer),
         post: reached_with(post, reached),
         dropped,
     }
 }
 
 // The reply of a call that was run.
-fn reply_of(answer: Answer) -> Reply
-    requires { (reply : Reply) × (answer ≡ answers.Reply reply) }
-    ensures { answer ≡ answers.Reply result }
+fn reply_of(answer: &Answer) -> Reply
+    requires { (reply : Reply) × (answer.now ≡ answers.Reply reply) }
+    ensures { answer.now ≡ answers.Reply result }
 {
     match answer {
-        Answer::Reply(reply) => reply,
-        Answer::Queued(_) | Answer::OnlySubscribed => unreachable!(),
+        Answer::Reply(reply) => *reply,
+        Answer::Look(_) | Answer::Queued(_) | Answer::OnlySubscribed => unreachable!(),
     }
 }
 

@@ -1,5 +1,5 @@
 //! The orders of a client: to subscribe to a channel, or to leave it.
-ghost use Rattle.std.specs.Prelude.{◌≡◌, ◌<◌, ◌≤◌, ℕ, length, Some, IfOk, OnOk, OnErr};
+ghost use Rattle.std.specs.Prelude.{◌≡◌, ◌<◌, ◌≤◌, ℕ, length, Some, IsTrue, IfOk, OnOk, OnErr};
 ghost use Rattle.lr_limits.specs.Limits.{entry_limit, last_moment};
 ghost use Rattle.lr_model.specs.History.{after};
 ghost use Rattle.lr_machine.specs.Clients.{subscription_connection};
@@ -12,6 +12,7 @@ ghost use Rattle.lr_machine.specs.World.{act_of, connection_of, first_state, nex
 ghost use Rattle.lr_clients.specs.Client.{clients_of};
 ghost use Rattle.lr_server.specs.declared.answered.Answer.TheVariants as answers;
 ghost use Rattle.lr_server.specs.Server.{act_of as request_act};
+ghost use Rattle.lr_server.specs.Looked.{is_step};
 ghost use Rattle.lr_world.specs.Steps.{channels_sent, heard_on, with_order};
 ghost use Rattle.lr_world.specs.World.{world_with};
 
@@ -103,7 +104,7 @@ fn send(
     let request = request_of(alloc, order)?;
     let connection = subscription_connection(client);
     match server.step(moment, client_caller(client), connection, &request) {
-        Ok(answered) => Ok(Some(count_of(answered.answer))),
+        Ok(answered) => Ok(Some(count_of(&answered.answer))),
         Err(StepFault::Dropped) => Ok(None),
         Err(StepFault::NoMemory) => Err(AllocError),
         Err(StepFault::HistoryFull) => unreachable!(),
@@ -113,7 +114,8 @@ fn send(
 
 // What an order asks of the server.
 fn request_of(alloc: Global, order: &Order) -> Result<Request, AllocError>
-    ensures { IfOk result (λ request. request_act request ≡ Some (act_of order.now)) }
+    ensures act { IfOk result (λ request. request_act request ≡ Some (act_of order.now)) }
+    ensures step { IfOk result (λ request. IsTrue (is_step request)) }
 {
     let mut channels = Channels::new(alloc);
     channels.push(order.channel)?;
@@ -125,12 +127,12 @@ fn request_of(alloc: Global, order: &Order) -> Result<Request, AllocError>
 }
 
 // How many channels a connection has that was answered so.
-fn count_of(answer: Answer) -> u32
-    requires { (count : ℕ) × (answer ≡ answers.Queued count) }
-    ensures { answer ≡ answers.Queued result }
+fn count_of(answer: &Answer) -> u32
+    requires { (count : ℕ) × (answer.now ≡ answers.Queued count) }
+    ensures { answer.now ≡ answers.Queued result }
 {
     match answer {
-        Answer::Queued(count) => count,
-        Answer::Reply(_) | Answer::OnlySubscribed => unreachable!(),
+        Answer::Queued(count) => *count,
+        Answer::Reply(_) | Answer::Look(_) | Answer::OnlySubscribed => unreachable!(),
     }
 }

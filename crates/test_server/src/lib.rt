@@ -4,6 +4,8 @@
 #[cfg(test)]
 mod commands;
 #[cfg(test)]
+mod looks;
+#[cfg(test)]
 mod pubsub;
 #[cfg(test)]
 mod server;

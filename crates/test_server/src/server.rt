@@ -1,5 +1,5 @@
-ghost use Rattle.std.specs.Prelude.{IsSome, IfOk};
-ghost use Rattle.lr_server.specs.Server.{act_of};
+ghost use Rattle.std.specs.Prelude.{IsTrue, IfOk};
+ghost use Rattle.lr_server.specs.Looked.{is_step};
 
 use lr_names::{Channel, Kind, Name, Owner, Push, Wakes};
 use lr_objects::{
@@ -15,21 +15,31 @@ const OWNER: &[u8] = b"00000000-0000-0000-0000-000000000001:1";
 
 const OTHER: &[u8] = b"00000000-0000-0000-0000-000000000001:2";
 
+// Whether these are the same answers, and none of a look.
+fn are_same(one: &Answer, other: &Answer) -> bool {
+    match (one, other) {
+        (Answer::Reply(a), Answer::Reply(b)) => a == b,
+        (Answer::Queued(a), Answer::Queued(b)) => a == b,
+        (Answer::OnlySubscribed, Answer::OnlySubscribed) => true,
+        _ => false,
+    }
+}
+
 // Whether an open connection is answered so, and the message of its call reaches so many.
 fn answers(
     server: &mut ServerState,
     conn: u32,
     request: &Request,
-    answer: Answer,
+    answer: &Answer,
     reached: u32,
 ) -> Result<bool, StepFault>
-    requires { IsSome (act_of request.now) }
+    requires { IsTrue (is_step request.now) }
 {
     if server.opener(conn).is_none() {
         return Ok(false);
     }
     match server.step(0, 0, conn, request) {
-        Ok(answered) => Ok(answered.reached == reached && answered.answer == answer),
+        Ok(answered) => Ok(answered.reached == reached && are_same(&answered.answer, answer)),
         Err(fault) => Err(fault),
     }
 }
@@ -47,7 +57,7 @@ fn takes(server: &mut ServerState, conn: u32, wanted: &[Push]) -> Result<bool, S
 
 // A request to subscribe to a channel.
 fn subscribing(alloc: Global, channel: Channel) -> Result<Request, AllocError>
-    ensures { IfOk result (λ request. IsSome (act_of request)) }
+    ensures { IfOk result (λ request. IsTrue (is_step request)) }
 {
     let mut channels = Channels::new(alloc);
     channels.push(channel)?;
@@ -75,9 +85,9 @@ fn calls_are_answered(
             rest: 30_000,
         }),
     });
-    let granted = answers(server, 0, &take, Answer::Reply(Reply::Granted), 0)?;
-    let freed = answers(server, 0, &free, Answer::Reply(Reply::Freed), 1)?;
-    let refused = answers(server, 1, &take, Answer::OnlySubscribed, 0)?;
+    let granted = answers(server, 0, &take, &Answer::Reply(Reply::Granted), 0)?;
+    let freed = answers(server, 0, &free, &Answer::Reply(Reply::Freed), 1)?;
+    let refused = answers(server, 1, &take, &Answer::OnlySubscribed, 0)?;
     Ok(freed && granted && refused)
 }
 
@@ -106,9 +116,9 @@ fn all_is_answered(
     channel: Channel,
     owner: Owner,
 ) -> Result<bool, StepFault>
-    requires { IsSome (act_of request.now) }
+    requires { IsTrue (is_step request.now) }
 {
-    let subscribed = answers(server, 1, request, Answer::Queued(1), 0)?;
+    let subscribed = answers(server, 1, request, &Answer::Queued(1), 0)?;
     let called = calls_are_answered(server, *channel.name(), owner)?;
     let told = messages_are_handed_out(server, channel)?;
     let goes_on = goes_on(server)?;
@@ -141,7 +151,7 @@ fn looks(
             lease: 1000,
         }),
     });
-    let granted = answers(server, 0, &write, Answer::Reply(Reply::Granted), 0)?;
+    let granted = answers(server, 0, &write, &Answer::Reply(Reply::Granted), 0)?;
     let want = Want {
         function: Function::ReadWrite(ReadWriteFunction::Read),
         name,

@@ -1,5 +1,5 @@
-ghost use Rattle.std.specs.Prelude.{IsSome};
-ghost use Rattle.lr_server.specs.Server.{act_of};
+ghost use Rattle.std.specs.Prelude.{IsTrue};
+ghost use Rattle.lr_server.specs.Looked.{is_step};
 
 use lr_names::{Name, Owner};
 use lr_objects::{Call, LockCall, Op, Reply};
@@ -13,7 +13,7 @@ const OTHER: &[u8] = b"00000000-0000-0000-0000-000000000001:2";
 
 // The request for a lock.
 fn lock_try(name: Name, owner: Owner) -> Request
-    ensures { IsSome (act_of result) }
+    ensures { IsTrue (is_step result) }
 {
     Request::Call(Op {
         name,
@@ -26,7 +26,7 @@ fn lock_try(name: Name, owner: Owner) -> Request
 
 // The request by which a lock is given back.
 fn lock_unlock(name: Name, owner: Owner) -> Request
-    ensures { IsSome (act_of result) }
+    ensures { IsTrue (is_step result) }
 {
     Request::Call(Op {
         name,
@@ -39,7 +39,7 @@ fn lock_unlock(name: Name, owner: Owner) -> Request
 
 // Whether a call was answered so.
 fn is_reply(answer: &Answer, reply: Reply) -> bool {
-    *answer == Answer::Reply(reply)
+    matches!(answer, Answer::Reply(given) if *given == reply)
 }
 
 // Whether a call found its object busy.

@@ -9,7 +9,7 @@ pub count_of-requires : goal.count_of-requires
 count_of-requires c = (
   _,
   count_told _ _
-      (c.in-Ok.ensures.answer (act_of c.args.order.now) c.in_ok-request.ensures
+      (c.in-Ok.ensures.answer (act_of c.args.order.now) c.in_ok-request.ensures.act
       ∙ result_is c.args.server.now c.args.moment c.args.client c.client_caller.result
       c.subscription_connection-connection.result c.args.order.now c.requires.first
       c.requires.in_time c.requires.early c.client_caller.ensures
@@ -21,7 +21,7 @@ returns-in-Ok-clause-sent c =
     let told =
     count_told c.in-Ok.answered.answer
     (channels_after c.args.order.now (heard_on c.args.server.now.entries c.args.client))
-    (c.in-Ok.ensures.answer (act_of c.args.order.now) c.in_ok-request.ensures
+    (c.in-Ok.ensures.answer (act_of c.args.order.now) c.in_ok-request.ensures.act
     ∙ result_is c.args.server.now c.args.moment c.args.client c.client_caller.result
     c.subscription_connection-connection.result c.args.order.now c.requires.first
     c.requires.in_time c.requires.early c.client_caller.ensures
@@ -32,7 +32,7 @@ returns-in-Ok-clause-sent c =
     c.requires.in_time c.requires.early c.client_caller.ensures
     c.subscription_connection-connection.ensures c.requires.connected.kept c.requires.room
     c.step.result c.in-Ok.answered c.in-Ok.is
-    (c.step.ensures.dropped (act_of c.args.order.now) c.in_ok-request.ensures) in
+    (c.step.ensures.dropped (act_of c.args.order.now) c.in_ok-request.ensures.act) in
     ap Some (same_count _ _ (sym c.count_of.ensures ∙ told))
     ∙ sym (ap (λ b. if b then Some (channels_after c.args.order.now
     (heard_on c.args.server.now.entries c.args.client)) else None) room)
@@ -45,8 +45,8 @@ returns-in-Ok-clause-entry c =
     c.requires.in_time c.requires.early c.client_caller.ensures
     c.subscription_connection-connection.ensures c.requires.connected.kept c.requires.room
     c.step.result c.in-Ok.answered c.in-Ok.is
-    (c.step.ensures.dropped (act_of c.args.order.now) c.in_ok-request.ensures) in
-    c.in-Ok.ensures.entry (act_of c.args.order.now) c.in_ok-request.ensures
+    (c.step.ensures.dropped (act_of c.args.order.now) c.in_ok-request.ensures.act) in
+    c.in-Ok.ensures.entry (act_of c.args.order.now) c.in_ok-request.ensures.act
     ∙ sent_is c.args.server.now c.args.moment c.args.client c.client_caller.result
     c.subscription_connection-connection.result c.args.order.now c.requires.first
     c.requires.in_time c.requires.early c.client_caller.ensures
@@ -59,7 +59,7 @@ returns-in-Err-Dropped-clause-sent c =
     c.subscription_connection-connection.result c.args.order.now c.requires.first
     c.requires.in_time c.requires.early c.client_caller.ensures
     c.subscription_connection-connection.ensures c.requires.connected.kept c.requires.room
-    ((c.step.ensures.dropped (act_of c.args.order.now) c.in_ok-request.ensures).0
+    ((c.step.ensures.dropped (act_of c.args.order.now) c.in_ok-request.ensures.act).0
     (c.in-Err-Dropped.is ∙ ap Err c.in-Err-Dropped.field-0-is)) in
     sym (ap (λ b. if b then Some (channels_after c.args.order.now
     (heard_on c.args.server.now.entries c.args.client)) else None) full)
@@ -71,7 +71,7 @@ returns-in-Err-Dropped-clause-entry c =
     c.subscription_connection-connection.result c.args.order.now c.requires.first
     c.requires.in_time c.requires.early c.client_caller.ensures
     c.subscription_connection-connection.ensures c.requires.connected.kept c.requires.room
-    ((c.step.ensures.dropped (act_of c.args.order.now) c.in_ok-request.ensures).0
+    ((c.step.ensures.dropped (act_of c.args.order.now) c.in_ok-request.ensures.act).0
     (c.in-Err-Dropped.is ∙ ap Err c.in-Err-Dropped.field-0-is)) in
     c.in-Err-Dropped.ensures.err
     ∙ unsent_is c.args.server.now c.args.moment c.args.client c.client_caller.result
@@ -85,5 +85,5 @@ unreachable-requires c =
     c.subscription_connection-connection.result c.args.order.now c.requires.first
     c.requires.in_time c.requires.early c.client_caller.ensures
     c.subscription_connection-connection.ensures c.requires.connected.kept c.requires.room
-    ((c.step.ensures.full (act_of c.args.order.now) c.in_ok-request.ensures).0
+    ((c.step.ensures.full (act_of c.args.order.now) c.in_ok-request.ensures.act).0
     (c.in-Err-HistoryFull.is ∙ ap Err c.in-Err-HistoryFull.field-0-is))

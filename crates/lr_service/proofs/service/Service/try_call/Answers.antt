@@ -1,11 +1,10 @@
 use Rattle.std.proofs.Common.{ap, subst, Ok, Err}
 use Rattle.lr_service.specs.declared.fault.TryFault.TheVariants as tries
-use Rattle.lr_server.specs.Server.{act_of}
 use Rattle.lr_turnstile.specs.Passes.{view}
-use Rattle.lr_service.specs.Calls.{IsServedTo}
+use Rattle.lr_service.specs.Calls.{IsServedTo, IsShownTo}
 use Rattle.lr_service.proofs.Connections.{still_usable}
 use Rattle.lr_service.proofs.HadTurns.{served_on}
-use Rattle.lr_service.proofs.Stepping.{entered_same, asked_act, tried_keeps}
+use Rattle.lr_service.proofs.Stepping.{entered_same, shown_on, try_keeps}
 use Rattle.lr_service.proofs.service.Service.try_call.Goals as goal
 
 pub serve-requires-clause-conn : goal.serve-requires-clause-conn
@@ -35,16 +34,38 @@ returns-in-Err-serve-clause-tried c act asked =
     (entered_same u v e.word e.view) (ap (λ z. z.mine) e.view) e.grew
     (c.serve.ensures.served act asked))
 
+pub returns-in-Ok-serve-clause-tried_shown : goal.returns-in-Ok-serve-clause-tried_shown
+returns-in-Ok-serve-clause-tried_shown c quiet =
+    let e = c.in-Ok.ensures.ok in
+    let u = view c.args.pass.now in
+    let v = view c.try_enter.new.pass in
+    let now = view c.serve.new.pass in
+    subst (λ r. IsShownTo u c.args.reading c.args.conn c.args.request.now r now)
+    c.in-Ok-serve.is
+    (shown_on u v now c.args.reading c.args.conn c.args.request.now c.serve.result
+    (entered_same u v e.word e.view) (ap (λ z. z.mine) e.view) e.grew
+    (c.serve.ensures.shown quiet))
+
+pub returns-in-Err-serve-clause-tried_shown : goal.returns-in-Err-serve-clause-tried_shown
+returns-in-Err-serve-clause-tried_shown c quiet =
+    let e = c.in-Ok.ensures.ok in
+    let u = view c.args.pass.now in
+    let v = view c.try_enter.new.pass in
+    let now = view c.serve.new.pass in
+    subst (λ r. IsShownTo u c.args.reading c.args.conn c.args.request.now r now)
+    c.in-Err-serve.is
+    (shown_on u v now c.args.reading c.args.conn c.args.request.now c.serve.result
+    (entered_same u v e.word e.view) (ap (λ z. z.mine) e.view) e.grew
+    (c.serve.ensures.shown quiet))
+
 pub returns-in-Ok-serve-clause-keeps : goal.returns-in-Ok-serve-clause-keeps
 returns-in-Ok-serve-clause-keeps c =
-    let asked = asked_act (act_of c.args.request.now) c.requires.request in
-    tried_keeps (view c.args.pass.now) (view c.serve.new.pass) c.args.reading c.args.conn
-    c.args.request.now asked.0 (Ok c.in-Ok-serve.answered) asked.1
-    (returns-in-Ok-serve-clause-tried c asked.0 asked.1)
+    try_keeps (view c.args.pass.now) (view c.serve.new.pass) c.args.reading c.args.conn
+    c.args.request.now (Ok c.in-Ok-serve.answered) c.requires.request
+    (returns-in-Ok-serve-clause-tried c) (returns-in-Ok-serve-clause-tried_shown c)
 
 pub returns-in-Err-serve-clause-keeps : goal.returns-in-Err-serve-clause-keeps
 returns-in-Err-serve-clause-keeps c =
-    let asked = asked_act (act_of c.args.request.now) c.requires.request in
-    tried_keeps (view c.args.pass.now) (view c.serve.new.pass) c.args.reading c.args.conn
-    c.args.request.now asked.0 (Err (tries.Step c.in-Err-serve.fault)) asked.1
-    (returns-in-Err-serve-clause-tried c asked.0 asked.1)
+    try_keeps (view c.args.pass.now) (view c.serve.new.pass) c.args.reading c.args.conn
+    c.args.request.now (Err (tries.Step c.in-Err-serve.fault)) c.requires.request
+    (returns-in-Err-serve-clause-tried c) (returns-in-Err-serve-clause-tried_shown c)
