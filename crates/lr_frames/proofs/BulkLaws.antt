@@ -49,32 +49,31 @@ not_dash n small = not_in_digits own (decimal n) 45 (digits_decimal own n small)
 mark_of : (b c : ℕ) (xs ys : List ℕ) → b ∷ xs ≡ c ∷ ys → b ≡ c
 mark_of b c xs ys same = ap (λ (l : List ℕ). get_or l 0 0) same
 
-pub bulk_alone : (frame : Frame) (text : List ℕ) → length text ≤ bulk_limit
+pub bulk_alone : (frame : Frame) (text : List ℕ) → length text < 2 ^ 64
     → spelling frame ≡ bulk_word text → is_bulk frame ≡ true
-bulk_alone (Bulk its) text short same = refl
-bulk_alone (Simple its) text short same = absurd (omega (arith, mark_of 43 36 _ _ same))
-bulk_alone (Fault its) text short same = absurd (omega (arith, mark_of 45 36 _ _ same))
-bulk_alone (Number n) text short same = absurd (omega (arith, mark_of 58 36 _ _ same))
-bulk_alone NullArray text short same = absurd (omega (arith, mark_of 42 36 _ _ same))
-bulk_alone (Array frames) text short same = absurd (omega (arith, mark_of 42 36 _ _ same))
-bulk_alone Null text short same =
-    let small : length text < 2 ^ 64 = omega (arith, short) in
+bulk_alone (Bulk its) text held same = refl
+bulk_alone (Simple its) text held same = absurd (omega (arith, mark_of 43 36 _ _ same))
+bulk_alone (Fault its) text held same = absurd (omega (arith, mark_of 45 36 _ _ same))
+bulk_alone (Number n) text held same = absurd (omega (arith, mark_of 58 36 _ _ same))
+bulk_alone NullArray text held same = absurd (omega (arith, mark_of 42 36 _ _ same))
+bulk_alone (Array frames) text held same = absurd (omega (arith, mark_of 42 36 _ _ same))
+bulk_alone Null text held same =
     let dash : 45 ≡ get_or (decimal (length text) ++ (line_end ++ (text ++ line_end))) 0 0 =
     ap (λ (l : List ℕ). get_or l 1 0) same in
-    absurd (not_dash (length text) small
-    (sym (first_of (decimal (length text)) (line_end ++ (text ++ line_end)) (decimal_nonempty (length text) small)) ∙ sym dash))
+    absurd (not_dash (length text) held
+    (sym (first_of (decimal (length text)) (line_end ++ (text ++ line_end)) (decimal_nonempty (length text) held)) ∙ sym dash))
 
 pub heads : (x y : List ℕ) (xs ys : List (List ℕ)) → x ∷ xs ≡ y ∷ ys → (x ≡ y) × (xs ≡ ys)
 heads x y xs ys same = (ap (λ (l : List (List ℕ)). get_or l 0 []) same, ap (λ (l : List (List ℕ)). drop 1 l) same)
 
 pub are_bulks : (items : List Frame) (words : List (List ℕ))
-    → AllByRecursion (λ text. length text ≤ bulk_limit) words
+    → AllByRecursion (λ text. length text < 2 ^ 64) words
     → map spelling items ≡ map bulk_word words → IsTrue (list_all is_bulk items)
-are_bulks [] words short same = refl
-are_bulks (item ∷ items) [] short same = absurd (omega (arith, ap (λ (l : List (List ℕ)). length l) same))
-are_bulks (item ∷ items) (word ∷ words) short same =
+are_bulks [] words held same = refl
+are_bulks (item ∷ items) [] held same = absurd (omega (arith, ap (λ (l : List (List ℕ)). length l) same))
+are_bulks (item ∷ items) (word ∷ words) held same =
     let parts = heads (spelling item) (bulk_word word) (map spelling items) (map bulk_word words) same in
-    and_from _ _ (bulk_alone item word short.0 parts.0) (are_bulks items words short.1 parts.1)
+    and_from _ _ (bulk_alone item word held.0 parts.0) (are_bulks items words held.1 parts.1)
 
 -- Short words make a frame that can be read.
 

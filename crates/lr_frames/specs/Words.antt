@@ -1,6 +1,6 @@
 -- Requests as lists of words: the Redis protocol page has a client send a command as an array of
 -- bulk strings.
-use Rattle.std.specs.Prelude.{ℕ, ◌≤◌, Bool, true, false, List, [], length, get_or, map}
+use Rattle.std.specs.Prelude.{ℕ, ◌<◌, ◌≤◌, ◌^◌, Bool, true, false, List, [], length, get_or, map}
 use Rattle.std.specs.List.{AllByRecursion}
 use Rattle.lr_resp.specs.declared.frame.Frame.{Frame}
 use Rattle.lr_resp.specs.declared.frame.Frame.TheVariants.{Bulk, Array}
@@ -19,6 +19,10 @@ words_frame texts = Array (map bulk_word texts)
 abbrev pub AreShort : List (List ℕ) → Type 0
 AreShort texts =
     (length texts ≤ item_limit) × AllByRecursion (λ text. length text ≤ bulk_limit) texts
+
+-- words that memory can hold
+abbrev pub AreHeld : List (List ℕ) → Type 0
+AreHeld texts = AllByRecursion (λ text. length text < 2 ^ 64) texts
 
 -- the word at a place, counted from 0: no bytes where there is none
 abbrev pub word_at : List (List ℕ) → ℕ → List ℕ

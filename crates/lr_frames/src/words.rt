@@ -1,7 +1,7 @@
 ghost use Rattle.std.specs.Prelude.{◌≡◌, ◌≢◌, ◌<◌, ◌≤◌, ◌↔◌, ℕ, List, Some, length, drop, map, slice_get, IsTrue, IsNone, IfSome};
 ghost use Rattle.std.specs.List.{list_all};
 ghost use Rattle.lr_resp.specs.Spelling.{spelling};
-ghost use Rattle.lr_frames.specs.Words.{AreShort, words_frame, bulk_word, word_at, is_bulk, bulk_text};
+ghost use Rattle.lr_frames.specs.Words.{AreHeld, words_frame, bulk_word, word_at, is_bulk, bulk_text};
 
 use lr_resp::Frame;
 use std::marker::Model;
@@ -30,7 +30,7 @@ impl<'a> Words<'a> {
     pub fn of(frame: &'a Frame) -> Option<Words<'a>>
         ensures words { IfSome result (λ words. frame.now ≡ words_frame words) }
         ensures some { IfSome result (λ words. 0 < length words) }
-        ensures none { IsNone result → (words : List (List ℕ)) → AreShort words
+        ensures none { IsNone result → (words : List (List ℕ)) → AreHeld words
             → 0 < length words → frame.now ≢ words_frame words }
     {
         match frame {
@@ -42,7 +42,7 @@ impl<'a> Words<'a> {
     fn of_items(items: &'a [Frame]) -> Option<Words<'a>>
         ensures words { IfSome result (λ words. map spelling items.now ≡ map bulk_word words) }
         ensures some { IfSome result (λ words. 0 < length words) }
-        ensures none { IsNone result → (words : List (List ℕ)) → AreShort words
+        ensures none { IsNone result → (words : List (List ℕ)) → AreHeld words
             → 0 < length words → map spelling items.now ≢ map bulk_word words }
     {
         if items.is_empty() {

@@ -1,7 +1,6 @@
 -- What words ask for is one request, and they then have no fault.
-use Rattle.std.proofs.Common.{◌≡◌, ◌≢◌, ℕ, ◌≤◌, List, [], ◌∷◌, length, map, get_or, refl, sym, ap, ◌∙◌, subst, arith}
+use Rattle.std.proofs.Common.{◌≡◌, ◌≢◌, ℕ, List, [], ◌∷◌, length, map, refl, sym, ap, ◌∙◌, subst, arith}
 use Rattle.std.specs.List.{AllByRecursion}
-use Rattle.std.specs.Fmt.{signed_decimal}
 use Rattle.lr_commands.specs.declared.look.Look as look_module
 use Rattle.lr_commands.specs.declared.request.Request.{Request}
 use Rattle.lr_frames.proofs.BulkLaws.{heads}
@@ -11,9 +10,7 @@ use Rattle.lr_names.proofs.ChannelLaws.{channel_text-injective}
 use Rattle.lr_names.specs.Channel.{ChannelOf, IsChannel, channel_text}
 use Rattle.lr_requests.proofs.CommandLaws.{small_word-injective}
 use Rattle.lr_requests.proofs.PlaceLaws.{one_place}
-use Rattle.lr_requests.specs.Channels.{AreTextsOf, AreChannelTexts, IsChannelText}
-use Rattle.lr_requests.specs.Command.{IsWordOf}
-use Rattle.lr_requests.specs.Frame.{WordsAsk}
+use Rattle.lr_requests.specs.Channels.{AreTextsOf, AreChannelTexts}
 use Rattle.lr_requests.specs.Laws.{RequestIsOne}
 use Rattle.lr_requests.specs.Look.{AsksLook}
 use Rattle.lr_requests.specs.Refusal.{Fits, NamesChannels, HasPlaces, LookHasPlaces}

@@ -1,5 +1,5 @@
 -- Lists of words of a known length.
-use Rattle.std.proofs.Common.{◌≡◌, ℕ, List, [], ◌∷◌, length, suc, refl, ap, arith}
+use Rattle.std.proofs.Common.{◌≡◌, ℕ, List, [], ◌∷◌, length, refl, ap, arith}
 use Rattle.lr_frames.specs.Words.{word_at}
 
 pub list_of_one : (words : List (List ℕ)) → length words ≡ 1 → words ≡ word_at words 0 ∷ []

@@ -1,7 +1,7 @@
 -- Requests as frames: an array of at least one bulk string, the first of which is the command's word.
 use Rattle.std.specs.Prelude.{◌≡◌, ◌≢◌, ℕ, List, ◌∷◌}
 use Rattle.lr_commands.specs.declared.request.Request.{Request}
-use Rattle.lr_frames.specs.Words.{AreShort, words_frame}
+use Rattle.lr_frames.specs.Words.{AreHeld, words_frame}
 use Rattle.lr_requests.specs.Command.{IsWordOf}
 use Rattle.lr_requests.specs.Refusal.{IsWordsFault}
 use Rattle.lr_requests.specs.Request.{Asks}
@@ -20,10 +20,10 @@ abbrev pub FrameAsks : Frame → Request → Type 0
 FrameAsks frame request = (word : List ℕ) × (arguments : List (List ℕ))
     × (frame ≡ words_frame (word ∷ arguments)) × WordsAsk word arguments request
 
--- what is wrong with a frame; one that is read has short words
+-- what is wrong with a frame, whose words memory can hold
 abbrev pub IsFrameFault : CommandFault → Frame → Type 0
 IsFrameFault NotARequest frame =
-    (word : List ℕ) (arguments : List (List ℕ)) → AreShort (word ∷ arguments)
+    (word : List ℕ) (arguments : List (List ℕ)) → AreHeld (word ∷ arguments)
     → frame ≢ words_frame (word ∷ arguments)
 IsFrameFault fault frame = (word : List ℕ) × (arguments : List (List ℕ))
     × (frame ≡ words_frame (word ∷ arguments)) × IsWordsFault fault word arguments

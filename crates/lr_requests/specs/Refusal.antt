@@ -1,6 +1,6 @@
 -- Which words are no request, and why: this project's own. The faults are tested in this order, and
 -- each is what it is only where none before it is.
-use Rattle.std.specs.Prelude.{◌≡◌, ℕ, List, length, codes}
+use Rattle.std.specs.Prelude.{ℕ, List, length, codes}
 use Rattle.lr_frames.specs.Faults.{IsCallFault}
 use Rattle.lr_frames.specs.Words.{word_at}
 use Rattle.lr_frames.specs.declared.fault.OpFault.{OpFault}
@@ -9,7 +9,7 @@ use Rattle.lr_requests.specs.Channels.{AreChannelTexts}
 use Rattle.lr_requests.specs.Command.{IsWordOf, IsWriteWordOf, arity_of, Allows}
 use Rattle.lr_requests.specs.Places.{IsPlaceText}
 use Rattle.lr_requests.specs.declared.command.Command.{Command}
-use Rattle.lr_requests.specs.declared.command.Command.TheVariants.{Call, Look, Subscribe, Unsubscribe, Ping, Quit}
+use Rattle.lr_requests.specs.declared.command.Command.TheVariants.{Call, Look, Subscribe, Unsubscribe}
 use Rattle.lr_requests.specs.declared.fault.CommandFault.{CommandFault}
 use Rattle.lr_requests.specs.declared.fault.CommandFault.TheVariants.{NotARequest, NotWritable, UnknownCommand, WrongArguments, NotFunction, BadChannel, BadName, BadNumber, NoMemory}
 use Rattle.lr_requests.specs.declared.look_command.LookCommand.{LookCommand}

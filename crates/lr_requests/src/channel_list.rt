@@ -1,4 +1,4 @@
-ghost use Rattle.std.specs.Prelude.{◌≡◌, IfOk, IfErr, IsNone, IfSome};
+ghost use Rattle.std.specs.Prelude.{◌≡◌, IfOk, IfErr};
 ghost use Rattle.lr_names.specs.Channel.{IsChannel, channel_text};
 ghost use Rattle.lr_requests.specs.Channels.{AreTextsOf, AreChannelTexts, IsChannelText};
 ghost use Rattle.lr_requests.specs.Refusal.{IsChannelsFault};

@@ -1,10 +1,9 @@
-ghost use Rattle.std.specs.Prelude.{◌≡◌, Some};
+ghost use Rattle.std.specs.Prelude.{◌≡◌};
 ghost use Rattle.lr_requests.specs.Refusal.{fault_text, call_fault};
 ghost use Rattle.lr_requests.specs.declared.fault.CommandFault.TheVariants.{NoMemory};
 
 use lr_frames::OpFault;
 use std::alloc::AllocError;
-use std::{fmt, str};
 
 /// Why a frame asks for nothing. The faults are tested in this order, and the first that fits is
 /// told; want of memory may come in the place of any but the first.

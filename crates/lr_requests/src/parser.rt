@@ -1,5 +1,4 @@
-ghost use Rattle.std.specs.Prelude.{◌≡◌, ◌<◌, IfOk, IfErr, length, drop};
-ghost use Rattle.lr_commands.specs.declared.request.Request.{Request};
+ghost use Rattle.std.specs.Prelude.{IfOk, IfErr, drop};
 ghost use Rattle.lr_frames.specs.Words.{word_at};
 ghost use Rattle.lr_requests.specs.Frame.{FrameAsks, IsFrameFault, WordsAsk};
 ghost use Rattle.lr_requests.specs.Refusal.{IsWordsFault};

@@ -1,4 +1,4 @@
-use Rattle.lr_requests.proofs.PlaceLaws.{no_place_behind_minus, no_place_without_minus}
+use Rattle.lr_requests.proofs.PlaceLaws.{no_place_behind_minus}
 use Rattle.lr_requests.proofs.places.read_place.Goals as goal
 
 pub returns-in-Some-clause-none : goal.returns-in-Some-clause-none

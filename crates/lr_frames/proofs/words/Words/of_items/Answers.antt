@@ -6,5 +6,5 @@ pub returns-clause-words : goal.returns-clause-words
 returns-clause-words c = spelled_words c.args.items.now (sym c.are_bulks.ensures ∙ c.if-not-are_bulks.false)
 
 pub returns-then-not-are_bulks-clause-none : goal.returns-then-not-are_bulks-clause-none
-returns-then-not-are_bulks-clause-none c = λ _ words short some same.
-    true≢false (sym (are_bulks c.args.items.now words short.1 same) ∙ sym c.are_bulks.ensures ∙ c.if-not-are_bulks.true)
+returns-then-not-are_bulks-clause-none c = λ _ words held some same.
+    true≢false (sym (are_bulks c.args.items.now words held same) ∙ sym c.are_bulks.ensures ∙ c.if-not-are_bulks.true)
