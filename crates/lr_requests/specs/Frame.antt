@@ -1,4 +1,5 @@
--- Requests as frames: an array of at least one bulk string, the first of which is the command's word.
+-- Requests as frames, after the Redis protocol page: an array of at least one bulk string, the
+-- first of which is the word of the command.
 use Rattle.std.specs.Prelude.{◌≡◌, ◌≢◌, ℕ, List, ◌∷◌}
 use Rattle.lr_commands.specs.declared.request.Request.{Request}
 use Rattle.lr_frames.specs.Words.{AreHeld, words_frame}

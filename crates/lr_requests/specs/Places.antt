@@ -1,5 +1,5 @@
--- Places in lists and sorted sets: signed numbers of 64 bits in their one spelling, which has no plus
--- sign, no zero in front, and no `-0`. The spelling is this project's own.
+-- Places in lists and sorted sets: signed numbers of 64 bits in their one spelling, which has no
+-- plus sign, no zero in front, and no `-0`. The spelling is this project's own.
 use Rattle.std.specs.Prelude.{◌≡◌, ℕ, ◌<◌, ◌^◌, ℤ, pos, negsuc, List}
 use Rattle.std.specs.Fmt.{signed_decimal}
 

@@ -1,5 +1,5 @@
--- What a command asks for with its arguments: the Redis command pages, and for FCALL and the channels
--- this project's own.
+-- What a command asks for with its arguments: the Redis command pages, and for FCALL and the
+-- channels this project's own.
 use Rattle.std.specs.Prelude.{◌≡◌, ℕ, List, [], ◌∷◌, None, Some}
 use Rattle.lr_commands.specs.declared.look.Look as look_module
 use Rattle.lr_commands.specs.declared.request.Request.{Request}
